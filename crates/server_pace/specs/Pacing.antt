@@ -314,14 +314,21 @@ pub record IsDue (p : Pace) (now : ℕ) (seen : Seen) (tries : Option ℕ) (bloc
 -- ---- what is called, and heard
 
 -- as it tells others
-abbrev pub teller_of : Pace → ℕ → ℕ → Teller
-teller_of p now known = record { times = p.times; at = now; me = p.me; known = known; calm = not p.last.tried }
+abbrev pub teller_of : Pace → ℕ → Seen → Teller
+teller_of p now seen = record {
+  times = p.times;
+  at = now;
+  me = p.me;
+  known = seen.known;
+  furthest = max seen.reached p.recorded;
+  calm = not p.last.tried;
+}
 
 -- nobody is told in the step behind a telling, nor where something goes first; else the next one may be
-abbrev pub IsTelling : Pace → ℕ → Node → ℕ → ℕ → Bool → Option (ℕ × ℕ) → Questions → Type 0
-IsTelling p n s now known waits telling new =
+abbrev pub IsTelling : Pace → ℕ → Node → ℕ → Seen → Bool → Option (ℕ × ℕ) → Questions → Type 0
+IsTelling p n s now seen waits telling new =
     ((waits ≡ true) × (telling ≡ None) × (new ≡ p.questions))
-    ⊎ ((waits ≡ false) × TellsNext p.questions (teller_of p now known) n s telling new)
+    ⊎ ((waits ≡ false) × TellsNext p.questions (teller_of p now seen) n s telling new)
 
 -- This is called behind the turns of a batch that begins now, by a server in a group of n, over this node; and that is its pace then
 pub record CallsDue (old : Pace) (n : ℕ) (s : Node) (now : ℕ) (drained : Bool) (last : LastCall)
@@ -334,7 +341,7 @@ pub record CallsDue (old : Pace) (n : ℕ) (s : Node) (now : ℕ) (drained : Boo
   pub is_seen : IsSeen s old.me old.recorded drained seen
   pub is_tried : IsTriedBy s (suc seen.known) tries
   pub is_block : IsNextBlock (owed_at old.keeping now seen.known) old.times now seen.known block
-  pub is_told : IsTelling old n s now seen.known (old.told || goes_first due) telling new.questions
+  pub is_told : IsTelling old n s now seen (old.told || goes_first due) telling new.questions
   pub is_due : IsDue old now seen tries block telling due
   pub is_called : last ≡ call_behind due
   pub after : new ≡ record (pace_after old now seen tries due last) { questions = new.questions }

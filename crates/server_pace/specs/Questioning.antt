@@ -60,9 +60,9 @@ asking_of last times now seen empty more = record {
 -- ---- tellings
 
 -- Something is to be told: all instances of a telling; or, as it asked, what is known; or what was voted for
--- from the instance on that it asked for, where nobody tries a value
+-- from the instance on that it asked for, where nobody tries a value and there may be such votes
 abbrev pub HasNews : Telling → Type 0
-HasNews t = (t.full ≡ true) ⊎ ((t.asked ≡ true) × ((t.known ≡ true) ⊎ ((t.calm ≡ true) × (t.first ≡ true))))
+HasNews t = (t.full ≡ true) ⊎ ((t.asked ≡ true) × ((t.known ≡ true) ⊎ ((t.calm ≡ true) × (t.votes ≡ true))))
 
 -- what others may tell too is told in turn; votes are told by each
 abbrev pub Tells : Telling → Type 0
@@ -109,7 +109,7 @@ pub record StandsSo (q : Questions) (teller : Teller) (s : Node) (p : ℕ) (cour
   pub full : IsTrue telling.full ↔ IsFull s course.next
   pub asked : telling.asked ≡ course.asked
   pub known : telling.known ≡ nat_le course.next teller.known
-  pub is_first : telling.first ≡ nat_le course.next course.first
+  pub votes : telling.votes ≡ (nat_le course.next course.first && nat_le course.next teller.furthest)
   pub calm : telling.calm ≡ teller.calm
   pub turn : IsTrue telling.turn ↔ HasTurn q.present.at teller.times teller.at p teller.me course.repeats
 

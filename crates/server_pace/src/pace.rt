@@ -122,7 +122,7 @@ impl Pace {
         let tries = first_tried_by(node, seen.known);
         let due = self.notice(now, seen, tries, block);
         let waits = self.tells_nobody(&due);
-        let telling = self.next_telling(now, node, seen.known, waits);
+        let telling = self.next_telling(now, node, seen, waits);
         self.call(now, seen.known, Due { telling, ..due })
     }
 
@@ -146,11 +146,11 @@ impl Pace {
         &mut self,
         now: u64,
         node: &Node<D>,
-        known: u32,
+        seen: Seen,
         waits: bool,
     ) -> Option<(NodeId, Instance)>
         ensures told { (s : AbstractNode) → IsNodeOf node.now s
-            → IsTelling self.old node.now.cluster s now known waits result self.new.questions }
+            → IsTelling self.old node.now.cluster s now seen waits result self.new.questions }
         ensures same { self.new ≡ record self.old { questions = self.new.questions } }
     {
         if waits {
@@ -160,7 +160,8 @@ impl Pace {
             times: self.times,
             at: now,
             me: self.me,
-            known,
+            known: seen.known,
+            furthest: seen.reached.max(self.recorded),
             calm: !self.last.tried,
         };
         self.questions.next(&teller, node)

@@ -41,6 +41,8 @@ pub(crate) struct Teller {
     pub me: NodeId,
     /// So many values are known.
     pub known: u32,
+    /// The furthest instance that messages were of, or at which its record had a vote as it began.
+    pub furthest: u32,
     /// Nobody was seen to try a value since it asked last.
     pub calm: bool,
 }
@@ -184,7 +186,7 @@ impl Questions {
             full: is_full(node, first),
             asked: course.asked,
             known: course.next <= teller.known,
-            first: course.next <= course.first,
+            votes: course.next <= course.first && course.next <= teller.furthest,
             calm: teller.calm,
             turn: self
                 .present

@@ -102,7 +102,7 @@ const IN_VAIN: &[Step] = &[
 
 /// Two nodes ask, and then one of them tries a value.
 const ASKED: &[Step] = &[
-    (0, false, true, Call::Ask, &[SECOND_ASKS]),
+    (0, false, true, Call::Ask, &[SECOND_KNOWN, SECOND_ASKS]),
     (1, false, true, Call::Tell(2, 1), &[SECOND_ASKS, THIRD_ASKS]),
     // In the step behind a telling nobody is told.
     (2, false, true, Call::Widen, &[]),
@@ -117,6 +117,15 @@ const ASKED: &[Step] = &[
     (43, false, true, Call::Nothing, &[]),
     (45, false, true, Call::Ask, &[]),
     (46, false, true, Call::Tell(2, 1), &[]),
+];
+
+/// Nodes 2 and 3 ask a server that heard of no instance.
+const UNHEARD: &[Step] = &[
+    (0, false, true, Call::Ask, &[SECOND_ASKS, THIRD_ASKS]),
+    (1, false, true, Call::Widen, &[]),
+    (2, false, true, Call::Widen, &[SECOND_KNOWN]),
+    // Now it may have votes to tell.
+    (3, false, true, Call::Tell(2, 1), &[]),
 ];
 
 /// What node 3 asks for becomes known behind its question, in the same batch: no answer told it.
@@ -202,10 +211,10 @@ const SUBMITTED: &[Step] = &[
 type Rest = (u64, Call, &'static [&'static [u8]], Option<u64>);
 
 const RESTS: &[Rest] = &[
-    (0, Call::Ask, &[SECOND_ASKS], None),
-    (1, Call::Tell(2, 1), &[], Some(500)),
-    (2, Call::Widen, &[], Some(500)),
-    (3, Call::Widen, &[], Some(20_000)),
+    (2, Call::Widen, &[SECOND_ASKS], None),
+    (3, Call::Tell(2, 1), &[], Some(500)),
+    (4, Call::Widen, &[], Some(500)),
+    (5, Call::Widen, &[], Some(20_000)),
 ];
 
 /// A node with its link, a desk and a pace.
@@ -320,11 +329,21 @@ fn who_asks_is_told_in_turn(rt: HostRuntime) {
 #[test]
 fn who_tells_does_not_sleep(rt: HostRuntime) {
     let mut paced = begun(&rt, rt.alloc());
+    paced.take(&rt, &(0, false, true, Call::Ask, &[SECOND_KNOWN]));
+    paced.take(&rt, &(1, false, true, Call::Widen, &[]));
+    for _ in 0..2_000 {
+        let _ = paced.pace.rest(false, false);
+    }
     for &(now, call, heard, rest) in RESTS {
         paced.take(&rt, &(now, false, true, call, heard));
         let is = paced.pace.rest(!heard.is_empty(), false);
         same(&rt, (now, is), (now, rest));
     }
+}
+
+#[test]
+fn who_heard_of_nothing_tells_nothing(rt: HostRuntime) {
+    run(&rt, rt.alloc(), UNHEARD);
 }
 
 #[test]
