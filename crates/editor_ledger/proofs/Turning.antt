@@ -6,9 +6,9 @@ use Rattle.std.proofs.lemmas.List.Elements.{All-contains_itself, Contains-append
 use Rattle.std.proofs.lemmas.Slice.Eq.{bytes_eq-Decides}
 use Rattle.editor_ledger.specs.Books.{Given, Book, fresh}
 use Rattle.editor_ledger.specs.Heads.{Head, head_of, is_about, is_same_subject, are_about_one, puts_by, is_put, removal, release_text}
-use Rattle.editor_ledger.specs.Histories.{Event, plans, releases, releases_again, receives, notes, says, after, after_all}
+use Rattle.editor_ledger.specs.Histories.{Event, plans, plans_again, releases, releases_again, receives, notes, says, after, after_all}
 use Rattle.editor_ledger.specs.Laws.{AreApart, AreAbout, PlanTurns}
-use Rattle.editor_ledger.specs.Plans.{plan_of}
+use Rattle.editor_ledger.specs.Plans.{plan_of, plan_again}
 use Rattle.editor_ledger.specs.Steps.{is_idle, has_unshown, numbered, with_tickets, with_past, planned, with_text, noted, without, received_as, received}
 use Rattle.editor_ledger.proofs.Members.{here, later, cases, nowhere, filtered, passes, keeps, some_passes, tested}
 use Rattle.editor_ledger.proofs.Receipts.{number_found}
@@ -191,6 +191,8 @@ chosen_apart false x book same apart = apart
 
 event_apart : (event : Event) (book : Book) → AreApart book.kept → AreApart (after event book).kept
 event_apart (plans wanted) book apart = chosen_apart (is_idle book) (with_tickets (plan_of book.kept wanted) (with_past (plan_of book.kept wanted) book)) book refl apart
+event_apart (plans_again again wanted) book apart =
+    chosen_apart (is_idle book) (with_tickets (plan_again again book.kept wanted) (with_past (plan_again again book.kept wanted) book)) book refl apart
 event_apart releases book apart = chosen_apart (is_idle book && has_unshown book) (with_tickets (release_text ∷ []) book) book refl apart
 event_apart releases_again book apart =
     chosen_apart (is_idle book && nat_lt 0 book.last_release) (record book { sent = record { number = book.last_release; text = release_text } ∷ [] }) book refl apart

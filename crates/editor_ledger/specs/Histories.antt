@@ -1,12 +1,14 @@
 -- What happens to a ledger, one after the other, whatever is interrupted in between: an interruption leaves the ledger that was saved last.
 use Rattle.std.specs.Prelude.{ℕ, List, [], ◌∷◌}
 use Rattle.editor_ledger.specs.Books.{Book}
-use Rattle.editor_ledger.specs.Steps.{planned, release_planned, received, released_again, logged, messaged}
+use Rattle.editor_ledger.specs.Steps.{planned, planned_again, release_planned, received, released_again, logged, messaged}
 use Rattle.editor_ledger.specs.declared.released.Released.{Released}
 
 pub data Event : Type 0 where
   -- a folder's texts are planned
   plans : List (List ℕ) → Event
+  -- the second ones are, and the first ones of them put again
+  plans_again : List (List ℕ) → List (List ℕ) → Event
   releases : Event
   releases_again : Event
   -- the ticket of that number has its receipt
@@ -18,6 +20,7 @@ pub data Event : Type 0 where
 
 abbrev pub after : Event → Book → Book
 after (plans wanted) book = planned wanted book
+after (plans_again again wanted) book = planned_again again wanted book
 after releases book = release_planned book
 after releases_again book = released_again book
 after (receives number) book = received number book

@@ -1,5 +1,5 @@
 -- What turns the texts that the group has into those that are wanted.
-use Rattle.std.specs.Prelude.{ℕ, List, ◌++◌, map, filter, find, not, ◌&&◌, if◌then◌else◌, Option, Some, None, option_map, option_and_then}
+use Rattle.std.specs.Prelude.{ℕ, List, ◌++◌, map, filter, find, not, ◌&&◌, ◌||◌, if◌then◌else◌, Option, Some, None, option_map, option_and_then}
 use Rattle.std.specs.List.{list_any, filter_map}
 use Rattle.std.specs.Str.{bytes_eq}
 use Rattle.editor_ledger.specs.Books.{Given}
@@ -19,6 +19,15 @@ removal_of wanted text = option_and_then (removal_by wanted) (head_of text)
 -- what is missing, and the removals of what was put and is wanted no more
 abbrev pub plan_of : List (List ℕ) → List (List ℕ) → List (List ℕ)
 plan_of kept wanted = missing kept wanted ++ filter_map (removal_of wanted) kept
+
+-- the wanted texts that the group has not, or that are put again
+abbrev pub missing_or_again : List (List ℕ) → List (List ℕ) → List (List ℕ) → List (List ℕ)
+missing_or_again again kept wanted = filter (λ t. not (list_any (bytes_eq t) kept) || list_any (bytes_eq t) again) wanted
+
+-- a plan that puts some of the wanted texts again, though the group has them by the ledger: another editor may have put
+-- something in their place since
+abbrev pub plan_again : List (List ℕ) → List (List ℕ) → List (List ℕ) → List (List ℕ)
+plan_again again kept wanted = missing_or_again again kept wanted ++ filter_map (removal_of wanted) kept
 
 -- ---- what a plan overtakes
 

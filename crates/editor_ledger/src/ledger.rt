@@ -6,7 +6,7 @@ use crate::fault::LedgerFault;
 use crate::kept::Kept;
 use crate::message::Message;
 use crate::past::Past;
-use crate::planning::{overtaken, plan_of};
+use crate::planning::{overtaken, plan_again, plan_of};
 use crate::released::Released;
 use crate::sent::{Sent, drop_under, numbered, under};
 use std::alloc::{AllocError, Global};
@@ -57,8 +57,8 @@ impl Model for Ledger {
 
 impl Ledger {
     ghost use Rattle.editor_ledger.specs.Books.{fresh};
-    ghost use Rattle.editor_ledger.specs.Steps.{is_idle, has_unshown, with_tickets, planned, release_planned, noted, received, released_again, logged, messaged};
-    ghost use Rattle.editor_ledger.specs.Plans.{plan_of};
+    ghost use Rattle.editor_ledger.specs.Steps.{is_idle, has_unshown, with_tickets, with_past, planned, planned_again, release_planned, noted, received, released_again, logged, messaged};
+    ghost use Rattle.editor_ledger.specs.Plans.{plan_of, plan_again};
 
     /// Of an editor that has published nothing.
     pub fn new(alloc: Global, editor: u32) -> Ledger
@@ -168,6 +168,22 @@ impl Ledger {
         Ok(())
     }
 
+    /// Gives the texts of a plan their tickets. What stood before each is kept.
+    fn take_plan(&mut self, alloc: Global, texts: Vec<String>) -> Result<(), LedgerFault>
+        ensures ok { OnOk result (self.new
+            ≡ with_tickets (map string_bytes texts.items) (with_past (map string_bytes texts.items) self.old)) }
+        ensures err { OnErr result (self.new ≡ self.old) }
+        ensures tickets { result ≡ Err LedgerFault.NoTickets → 2 ^ 64 ≤ self.old.next + length texts.items }
+    {
+        let next = self.next_behind(&texts)?;
+        let mut past = overtaken(alloc, self.next, self.kept.as_slice(), &texts)?;
+        let sent = numbered(alloc, self.next, texts)?;
+        self.past.append(&mut past)?;
+        self.sent = sent;
+        self.next = next;
+        Ok(())
+    }
+
     /// The texts that a plan of these texts puts on their way.
     pub fn next_texts(&self, alloc: Global, wanted: &[&str]) -> Result<Vec<String>, AllocError>
         ensures { IfOk result (λ v. map string_bytes v.items ≡ plan_of self.now.kept (map (λ t. t.now) wanted.now)) }
@@ -184,13 +200,26 @@ impl Ledger {
         ensures tickets { result ≡ Err LedgerFault.NoTickets → 2 ^ 64 ≤ self.old.next + length (plan_of self.old.kept (map (λ t. t.now) wanted.now)) }
     {
         let texts = plan_of(alloc, self.kept.as_slice(), wanted)?;
-        let next = self.next_behind(&texts)?;
-        let mut past = overtaken(alloc, self.next, self.kept.as_slice(), &texts)?;
-        let sent = numbered(alloc, self.next, texts)?;
-        self.past.append(&mut past)?;
-        self.sent = sent;
-        self.next = next;
-        Ok(())
+        self.take_plan(alloc, texts)
+    }
+
+    /// Plans the same, and puts some of the wanted texts again that the group has by this ledger: another
+    /// editor may have put something in their place.
+    pub fn plan_again(
+        &mut self,
+        alloc: Global,
+        wanted: &[&str],
+        again: &[String],
+    ) -> Result<(), LedgerFault>
+        requires { is_idle self.old ≡ true }
+        ensures ok { OnOk result (self.new
+            ≡ planned_again (map string_bytes again.now) (map (λ t. t.now) wanted.now) self.old) }
+        ensures err { OnErr result (self.new ≡ self.old) }
+        ensures tickets { result ≡ Err LedgerFault.NoTickets → 2 ^ 64 ≤ self.old.next
+            + length (plan_again (map string_bytes again.now) self.old.kept (map (λ t. t.now) wanted.now)) }
+    {
+        let texts = plan_again(alloc, self.kept.as_slice(), wanted, again)?;
+        self.take_plan(alloc, texts)
     }
 
     /// Plans the release of what the group has, where tickets were given since the last one.

@@ -5,7 +5,7 @@
 ghost use Rattle.std.specs.Prelude.{◌≡◌, ℕ, List, map, option_map, IfOk, string_bytes};
 ghost use Rattle.std.specs.List.{filter_map};
 ghost use Rattle.editor_ledger.specs.Firsts.{HasFirsts};
-ghost use Rattle.editor_ledger.specs.Plans.{missing, removal_of, plan_of, before_text, overtaken};
+ghost use Rattle.editor_ledger.specs.Plans.{missing, missing_or_again, removal_of, plan_of, plan_again, before_text, overtaken};
 ghost use Rattle.editor_ledger.specs.View.{past_view};
 
 use crate::firsts::{Firsts, first_about, firsts_in, firsts_of, has_about, is_in, texts_in};
@@ -25,6 +25,27 @@ fn missing<'a>(
     let mut plan = Vec::new(alloc);
     for text in wanted {
         if !is_in(&had, text) {
+            plan.push(String::from_str(alloc, text)?)?;
+        }
+    }
+    Ok(plan)
+}
+
+/// The wanted texts that the group has not, or that are put again, in their order.
+fn missing_or_again<'a>(
+    alloc: Global,
+    kept: &'a [String],
+    wanted: &'a [&'a str],
+    again: &'a [String],
+) -> Result<Vec<String>, AllocError>
+    ensures { IfOk result (λ v. map string_bytes v.items
+        ≡ missing_or_again (map string_bytes again.now) (map string_bytes kept.now) (map (λ t. t.now) wanted.now)) }
+{
+    let had = texts_in(alloc, kept)?;
+    let anew = texts_in(alloc, again)?;
+    let mut plan = Vec::new(alloc);
+    for text in wanted {
+        if !is_in(&had, text) || is_in(&anew, text) {
             plan.push(String::from_str(alloc, text)?)?;
         }
     }
@@ -77,6 +98,22 @@ pub(crate) fn plan_of<'a>(
     ensures { IfOk result (λ v. map string_bytes v.items ≡ plan_of (map string_bytes kept.now) (map (λ t. t.now) wanted.now)) }
 {
     let mut plan = missing(alloc, kept, wanted)?;
+    let mut gone = removals(alloc, kept, wanted)?;
+    plan.append(&mut gone)?;
+    Ok(plan)
+}
+
+/// The texts of a plan that puts some of the wanted texts again.
+pub(crate) fn plan_again<'a>(
+    alloc: Global,
+    kept: &'a [String],
+    wanted: &'a [&'a str],
+    again: &'a [String],
+) -> Result<Vec<String>, AllocError>
+    ensures { IfOk result (λ v. map string_bytes v.items
+        ≡ plan_again (map string_bytes again.now) (map string_bytes kept.now) (map (λ t. t.now) wanted.now)) }
+{
+    let mut plan = missing_or_again(alloc, kept, wanted, again)?;
     let mut gone = removals(alloc, kept, wanted)?;
     plan.append(&mut gone)?;
     Ok(plan)

@@ -2,14 +2,14 @@
 use Rattle.std.proofs.Common.{◌≡◌, ℕ, List, [], ◌∷◌, ◌++◌, length, Bool, true, false, cond, eqb, ◌↔◌, Contains, map, refl, sym, ap, subst, ◌∙◌}
 use Rattle.std.proofs.lemmas.List.{map-append}
 use Rattle.editor_ledger.specs.Books.{Given, Book, fresh}
-use Rattle.editor_ledger.specs.Histories.{Event, plans, releases, receives, notes as tells, says as speaks, after, after_all}
+use Rattle.editor_ledger.specs.Histories.{Event, plans, plans_again as puts_again, releases, receives, notes as tells, says as speaks, after, after_all}
 use Rattle.editor_ledger.specs.Plans.{plan_of}
 use Rattle.editor_ledger.specs.Steps.{is_idle, numbered, with_tickets, with_past, planned, received}
 use Rattle.editor_ledger.proofs.Tickets.{one_text}
 use Rattle.editor_ledger.proofs.Turning.{plan_turns}
 use Rattle.editor_plan.specs.Laws.{TicketsHaveOneText, DoneIsTheFolder}
 use Rattle.editor_plan.specs.Flights.{after_hearing}
-use Rattle.editor_plan.specs.Moves.{Move, advances, hears, notes, says, moved, moved_all, HearsAnswers}
+use Rattle.editor_plan.specs.Moves.{Move, advances, plans_again, hears, notes, says, moved, moved_all, HearsAnswers}
 use Rattle.editor_plan.specs.declared.flight.Ask.{Ask}
 use Rattle.editor_plan.specs.declared.flight.Ask.TheVariants.{Receipt, Submit}
 
@@ -23,6 +23,7 @@ heard false number book = ([], refl)
 
 one_move : (move : Move) (book : Book) → Leads book (moved move book)
 one_move (advances wanted) book = (plans wanted ∷ (releases ∷ []), refl)
+one_move (plans_again again wanted) book = (puts_again again wanted ∷ [], refl)
 one_move (hears (Receipt number) status) book = heard (eqb status 200) number book
 one_move (hears (Submit number) status) book = ([], refl)
 one_move (notes released) book = (tells released ∷ [], refl)

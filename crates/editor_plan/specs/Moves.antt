@@ -2,7 +2,7 @@
 -- interruption leaves the ledger that was saved last.
 use Rattle.std.specs.Prelude.{◌≡◌, ℕ, List, [], ◌∷◌, map}
 use Rattle.editor_ledger.specs.Books.{Book}
-use Rattle.editor_ledger.specs.Steps.{logged, messaged}
+use Rattle.editor_ledger.specs.Steps.{planned_again, logged, messaged}
 use Rattle.editor_ledger.specs.declared.released.Released.{Released}
 use Rattle.editor_plan.specs.Courses.{advanced}
 use Rattle.editor_plan.specs.Flights.{after_hearing}
@@ -11,6 +11,8 @@ use Rattle.editor_plan.specs.declared.flight.Ask.{Ask}
 pub data Move : Type 0 where
   -- a folder of these texts goes on
   advances : List (List ℕ) → Move
+  -- a folder of the second texts puts the first ones of them again
+  plans_again : List (List ℕ) → List (List ℕ) → Move
   -- an answer with that status is heard
   hears : Ask → ℕ → Move
   -- a release is told in the log
@@ -20,6 +22,7 @@ pub data Move : Type 0 where
 
 abbrev pub moved : Move → Book → Book
 moved (advances wanted) book = advanced wanted book
+moved (plans_again again wanted) book = planned_again again wanted book
 moved (hears ask status) book = after_hearing ask status book
 moved (notes released) book = logged released book
 moved (says release text) book = messaged release text book

@@ -1,12 +1,12 @@
 -- What is told of a delivery while it is under way, and when; all times in milliseconds since it began.
-use Rattle.std.specs.Prelude.{ℕ, ◌-◌, ◌==◌, nat_le, Bool, true, false, not, ◌&&◌, if◌then◌else◌, Option, Some, None}
+use Rattle.std.specs.Prelude.{ℕ, ◌-◌, ◌/◌, ◌==◌, nat_le, nat_lt, Bool, true, false, not, ◌&&◌, if◌then◌else◌, Option, Some, None}
 use Rattle.editor_plan.specs.declared.delivery_clock.Came.{Came}
 use Rattle.editor_plan.specs.declared.delivery_clock.Came.TheVariants.{Receipt, Answers, Silence}
-use Rattle.editor_plan.specs.declared.progress.TheConstants.{EACH, SILENCE}
+use Rattle.editor_plan.specs.declared.progress.TheConstants.{EACH, SILENCE, PARTS}
 use Rattle.editor_plan.specs.declared.progress.Progress.{Progress}
 
 abbrev pub first_progress : ℕ → Progress
-first_progress all = record { all = all; told = 0; at = 0; moved = 0; silent = false }
+first_progress all = record { all = all; told = 0; kept = 0; at = 0; moved = 0; silent = false }
 
 -- another number of receipts than was told last, and so long after that
 abbrev pub is_counted : ℕ → ℕ → Progress → Bool
@@ -17,6 +17,14 @@ count_told now left p = if is_counted now (p.all - left) p then Some (p.all - le
 
 abbrev pub after_count : ℕ → ℕ → Progress → Progress
 after_count now left p = if is_counted now (p.all - left) p then record p { told = p.all - left; at = now } else p
+
+-- more than a sixteenth of all commands have their receipts since the ledger was saved last. So one delivery saves it
+-- fifteen times at most, however many commands it has
+abbrev pub is_kept : ℕ → Progress → Bool
+is_kept has p = nat_lt (p.all / PARTS) (has - p.kept)
+
+abbrev pub after_keeping : ℕ → Progress → Progress
+after_keeping has p = if is_kept has p then record p { kept = has } else p
 
 -- no receipt came for so long, and that was not told yet
 abbrev is_late : ℕ → Progress → Bool

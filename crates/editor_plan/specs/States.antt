@@ -1,22 +1,19 @@
 -- What the newest release of a group may show of a folder, and what a publication of the folder may change there.
-use Rattle.std.specs.Prelude.{ℕ, ◌-◌, List, [], ◌∷◌, ◌++◌, map, filter, not, nat_le, nat_lt, if◌then◌else◌}
-use Rattle.std.specs.List.{list_any, fold}
+use Rattle.std.specs.Prelude.{ℕ, ◌-◌, List, [], ◌∷◌, ◌++◌, map, filter, nat_lt, if◌then◌else◌}
 use Rattle.editor_ledger.specs.Books.{Given, Book}
 use Rattle.editor_ledger.specs.Past.{texts_at}
 use Rattle.editor_ledger.specs.Plans.{plan_of}
 use Rattle.editor_ledger.specs.Steps.{has_unshown}
 
--- a ticket, if it is later than each of these
-abbrev pub with_later : List ℕ → ℕ → List ℕ
-with_later tickets ticket = if not (list_any (λ t. nat_le ticket t) tickets) then tickets ++ ticket ∷ [] else tickets
-
--- the last ticket before a plan, by what the plan overtook
-abbrev pub with_stop : List ℕ → Given → List ℕ
-with_stop tickets g = with_later tickets (g.number - 1)
+-- the last ticket before each plan that overtook something, if it is later than the one before
+abbrev pub stops_after : ℕ → List Given → List ℕ
+stops_after last [] = []
+stops_after last (g ∷ past) =
+    if nat_lt last (g.number - 1) then (g.number - 1) ∷ stops_after (g.number - 1) past else stops_after last past
 
 -- the tickets after which nothing was on its way: the folder's last release, and the last ticket before each later plan
 abbrev pub stops : Book → List ℕ
-stops book = fold with_stop (book.last_release ∷ []) book.past
+stops book = book.last_release ∷ stops_after book.last_release book.past
 
 -- the folder's texts once the group also has those that are on their way
 abbrev pub with_sent : Book → List (List ℕ)

@@ -5,17 +5,18 @@ ghost use Rattle.editor_plan.specs.Answering.{answers_within};
 /// How many milliseconds they have the first time.
 pub const FIRST_ANSWERS: u64 = 2_000;
 
-/// How many milliseconds they have later.
+/// How many milliseconds they have later at most.
 pub const LATER_ANSWERS: u64 = 10_000;
 
-/// How many milliseconds nodes have that were asked so many times before: at first few, so that an editor
-/// soon learns which are silent; then more, since a busy node answers late.
-pub fn answers_within(times: u64) -> u64
-    ensures { result ≡ answers_within times }
+/// How many milliseconds nodes have that were asked so many times before, where so many seconds may pass in
+/// all, of which so many milliseconds have: at first few, so that an editor soon learns which are silent;
+/// then more, since a busy node answers late, but no longer than the seconds that are left.
+pub fn answers_within(times: u64, passed: u64, patience: u64) -> u64
+    ensures { result ≡ answers_within times passed patience }
 {
     if times == 0 {
-        FIRST_ANSWERS
-    } else {
-        LATER_ANSWERS
+        return FIRST_ANSWERS;
     }
+    let left = patience.saturating_sub(passed / 1000);
+    left.min(LATER_ANSWERS / 1000).max(1) * 1000
 }

@@ -1,6 +1,6 @@
-//! What is told of a delivery while it is under way, and when.
+//! What is told of a delivery while it is under way, when, and when its ledger is saved meanwhile.
 ghost use Rattle.std.specs.Prelude.{◌≡◌};
-ghost use Rattle.editor_plan.specs.Progresses.{first_progress, is_counted, count_told, after_count, falls_silent, after_exchange};
+ghost use Rattle.editor_plan.specs.Progresses.{first_progress, is_counted, count_told, after_count, is_kept, after_keeping, falls_silent, after_exchange};
 
 use crate::delivery_clock::Came;
 
@@ -10,6 +10,9 @@ pub(crate) const EACH: u64 = 1_000;
 /// That no receipt came is told after so many milliseconds.
 pub(crate) const SILENCE: u64 = 2_000;
 
+/// The ledger is saved again after more than one of so many equal parts of the commands.
+pub(crate) const PARTS: usize = 16;
+
 /// What was told of a delivery, and when, in milliseconds since it began.
 #[derive(Clone, Copy, Drop)]
 pub struct Progress {
@@ -17,7 +20,9 @@ pub struct Progress {
     all: usize,
     /// So many of them had their receipts when that was told last.
     told: usize,
-    /// When that was.
+    /// So many of them had their receipts when the ledger was saved last.
+    kept: usize,
+    /// When their number was told last.
     at: u64,
     /// When a receipt came last.
     moved: u64,
@@ -33,6 +38,7 @@ impl Progress {
         Progress {
             all,
             told: 0,
+            kept: 0,
             at: 0,
             moved: 0,
             silent: false,
@@ -65,6 +71,19 @@ impl Progress {
         self.told = has;
         self.at = now;
         Some(has)
+    }
+
+    /// Whether the ledger is to be saved now that so many have their receipts: the count of a run that is
+    /// killed is then close, and the work stays in proportion to the ledger's size.
+    pub fn keeps(&mut self, has: usize) -> bool
+        ensures keeps { result ≡ is_kept has self.old }
+        ensures progress { self.new ≡ after_keeping has self.old }
+    {
+        if has.saturating_sub(self.kept) <= self.all / PARTS {
+            return false;
+        }
+        self.kept = has;
+        true
     }
 
     /// Whether it is to be told now, after an exchange, that no receipt comes.

@@ -1,37 +1,24 @@
 //! What the newest release of a group may show of a folder, and what a publication may change there.
-ghost use Rattle.std.specs.Prelude.{◌≡◌, ◌++◌, ◌∷◌, [], ℕ, List, map, filter, nat_le, nat_lt, IfOk, OnOk, string_bytes};
-ghost use Rattle.std.specs.List.{list_any};
+ghost use Rattle.std.specs.Prelude.{◌≡◌, ◌++◌, map, filter, nat_lt, IfOk, string_bytes};
 ghost use Rattle.editor_ledger.specs.Past.{texts_at};
-ghost use Rattle.editor_plan.specs.States.{with_later, stops, with_sent, states_of, touched};
+ghost use Rattle.editor_plan.specs.States.{stops, with_sent, states_of, touched};
 
 use editor_ledger::Ledger;
 use std::alloc::{AllocError, Global};
-
-/// Whether one of the tickets is as late.
-fn is_reached(tickets: &[u64], ticket: u64) -> bool
-    ensures { result ≡ list_any (λ t. nat_le ticket t) tickets.now }
-{
-    tickets.iter().any(|t| ticket <= *t)
-}
-
-/// Adds a ticket, if it is later than each.
-fn add_later(tickets: &mut Vec<u64>, ticket: u64) -> Result<(), AllocError>
-    ensures { OnOk result (tickets.new.items ≡ with_later tickets.old.items ticket) }
-{
-    if !is_reached(tickets.as_slice(), ticket) {
-        tickets.push(ticket)?;
-    }
-    Ok(())
-}
 
 /// The tickets since a folder's last release after which nothing was on its way, as far as they are known.
 fn stops(alloc: Global, ledger: &Ledger) -> Result<Vec<u64>, AllocError>
     ensures { IfOk result (λ v. v.items ≡ stops ledger.now) }
 {
+    let mut last = ledger.last_release();
     let mut stops = Vec::new(alloc);
-    stops.push(ledger.last_release())?;
+    stops.push(last)?;
     for had in ledger.past() {
-        add_later(&mut stops, had.since.saturating_sub(1))?;
+        let ticket = had.since.saturating_sub(1);
+        if last < ticket {
+            stops.push(ticket)?;
+            last = ticket;
+        }
     }
     Ok(stops)
 }

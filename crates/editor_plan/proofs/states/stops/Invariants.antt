@@ -1,9 +1,10 @@
-use Rattle.std.proofs.Common.{◌≡◌, map, take, ◌∷◌, []}
-use Rattle.std.specs.List.{fold}
+use Rattle.std.proofs.Common.{◌≡◌, ◌++◌, ◌∷◌, map, drop}
 use Rattle.editor_ledger.specs.View.{past_view}
-use Rattle.editor_plan.specs.States.{with_stop}
+use Rattle.editor_plan.specs.States.{stops_after}
 use Rattle.editor_plan.proofs.states.stops.Given as goal
 
--- those so far
+-- those so far, and those that are left
 abbrev pub invariant-loop-had : goal.invariant-loop-had
-invariant-loop-had l = l.stops.items ≡ fold with_stop (l.ledger.last_release ∷ []) (map past_view (take l.had-index l.had-items))
+invariant-loop-had l =
+    l.stops.items ++ stops_after l.last (map past_view (drop l.had-index l.had-items))
+    ≡ l.ledger.last_release ∷ stops_after l.ledger.last_release (map past_view l.had-items)
