@@ -1,20 +1,31 @@
 -- Which faults end what.
-use Rattle.std.specs.Prelude.{⊤}
+use Rattle.std.specs.Prelude.{◌≡◌, ⊤, List, ℕ, ◌++◌, codes, string_bytes}
 use Rattle.editor_common.specs.declared.editor_fault.EditorFault.{EditorFault}
-use Rattle.editor_common.specs.declared.editor_fault.EditorFault.TheVariants.{Write, Stop, NoNodes, Clock, OutOfMemory}
+use Rattle.editor_common.specs.declared.editor_fault.EditorFault.TheVariants.{File, Write, Stop, Clock, OutOfMemory}
 
--- what is made of other faults, or tells the editor what to do, or an allocation failed
-abbrev pub IsStop : EditorFault → Type 0
-IsStop (Stop words) = ⊤
-IsStop OutOfMemory = ⊤
-IsStop _ = ⊥
+-- words were made that say why nothing goes on; or an allocation failed, perhaps that of the words
+abbrev pub IsStopOrMemory : EditorFault → Type 0
+IsStopOrMemory (Stop words) = ⊤
+IsStopOrMemory OutOfMemory = ⊤
+IsStopOrMemory _ = ⊥
 
--- a group is asked or told no further: for a reason in words, or as no node is named, the clock cannot be read, a line
--- cannot be written, or an allocation failed
-abbrev pub IsOfGroup : EditorFault → Type 0
-IsOfGroup Write = ⊤
-IsOfGroup (Stop words) = ⊤
-IsOfGroup NoNodes = ⊤
-IsOfGroup Clock = ⊤
-IsOfGroup OutOfMemory = ⊤
-IsOfGroup _ = ⊥
+-- while a group is spoken to, and what it says is written: a line could not be written, the clock could not be read, or
+-- an allocation failed
+abbrev pub IsOfTalk : EditorFault → Type 0
+IsOfTalk Write = ⊤
+IsOfTalk Clock = ⊤
+IsOfTalk OutOfMemory = ⊤
+IsOfTalk _ = ⊥
+
+-- what the system says of that path, or an allocation failed
+abbrev pub IsAtPath : List ℕ → EditorFault → Type 0
+IsAtPath path (File name why) = string_bytes name ≡ path
+IsAtPath path OutOfMemory = ⊤
+IsAtPath path _ = ⊥
+
+-- or what is wrong in the file there, in words that name it first
+abbrev pub IsInFile : List ℕ → EditorFault → Type 0
+IsInFile path (File name why) = string_bytes name ≡ path
+IsInFile path (Stop words) = (rest : List ℕ) × (string_bytes words ≡ path ++ (codes ":" ++ rest))
+IsInFile path OutOfMemory = ⊤
+IsInFile path _ = ⊥

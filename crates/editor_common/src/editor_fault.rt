@@ -60,8 +60,12 @@ impl From<LedgerFault> for EditorFault {
 }
 
 impl EditorFault {
+    ghost use Rattle.editor_common.specs.Faults.{IsAtPath};
+
     /// That of a file or a folder: what the system says of it.
-    pub fn at_path(alloc: Global, path: &str, fault: io::Error) -> EditorFault {
+    pub fn at_path(alloc: Global, path: &str, fault: io::Error) -> EditorFault
+        ensures { IsAtPath path.now result }
+    {
         if fault.kind() == io::ErrorKind::OutOfMemory {
             return EditorFault::OutOfMemory;
         }

@@ -1,5 +1,6 @@
 ghost use Rattle.std.specs.Prelude.{◌≡◌, ◌++◌, ◌∷◌, [], OnOk, IfErr};
-ghost use Rattle.editor_common.specs.Faults.{IsOfGroup};
+ghost use Rattle.editor_common.specs.Faults.{IsOfTalk};
+ghost use Rattle.editor_common.specs.Lines.{WritesLine};
 ghost use Rattle.std.specs.Io.KnownBytes.{Appends};
 
 use crate::editor_fault::EditorFault;
@@ -19,7 +20,8 @@ pub fn say<W: Write>(out: &mut W, line: &str) -> Result<(), EditorFault>
 
 /// Writes a line, where there was memory to make it.
 pub fn say_made<W: Write>(out: &mut W, line: Result<String, AllocError>) -> Result<(), EditorFault>
-    ensures { IfErr result IsOfGroup }
+    ensures written { OnOk result (WritesLine (W.contents out.old) (W.contents out.new)) }
+    ensures fault { IfErr result IsOfTalk }
 {
     say(out, line?.as_str())
 }

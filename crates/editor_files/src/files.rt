@@ -1,4 +1,7 @@
 //! The files of a folder, read; and files that are written.
+ghost use Rattle.std.specs.Prelude.{IfErr};
+ghost use Rattle.editor_common.specs.Faults.{IsAtPath};
+
 use editor_common::EditorFault;
 use editor_folder::{SiteFile, is_of_site, is_part, is_passed_over};
 use std::alloc::{AllocError, Global};
@@ -76,7 +79,9 @@ pub fn below(alloc: Global, path: &str, name: &str) -> Result<String, AllocError
 }
 
 /// What the system gave of a path, or what it says of that.
-pub(crate) fn at<T>(alloc: Global, path: &str, given: io::Result<T>) -> Result<T, EditorFault> {
+pub(crate) fn at<T>(alloc: Global, path: &str, given: io::Result<T>) -> Result<T, EditorFault>
+    ensures { IfErr result (IsAtPath path.now) }
+{
     match given {
         Ok(given) => Ok(given),
         Err(fault) => Err(EditorFault::at_path(alloc, path, fault)),

@@ -2,14 +2,18 @@
 ghost use Rattle.std.specs.Prelude.{◌≡◌, IfOk, OnOk, OnErr};
 ghost use Rattle.editor_plan.specs.Flights.{after_hearing, heard_of};
 
+use crate::saving::write_ledger;
+use editor_common::EditorFault;
 use editor_ledger::Ledger;
 use editor_plan::{Ask, Flight, Heard};
 use std::alloc::AllocError;
+use std::rt::Files;
 
 /// A ledger whose folder has it in its file, but for receipts that came since: what is on its way may be
 /// sent. `save` alone makes one, so no text is sent under a ticket of which the file does not know.
 #[derive(Drop)]
 pub struct Saved<'a> {
+    pub(crate) folder: &'a str,
     pub(crate) ledger: &'a mut Ledger,
 }
 
@@ -18,6 +22,11 @@ impl Saved<'_> {
         ensures { result.now ≡ self.now.ledger.now }
     {
         self.ledger
+    }
+
+    /// Saves the ledger again, with the receipts that came since.
+    pub fn keep<R: Files + AllocGlobal>(&self, rt: &R) -> Result<(), EditorFault> {
+        write_ledger(rt, self.folder, self.ledger)
     }
 
     /// Hears the status of an answer: a receipt takes its command off its way, and nothing else changes the

@@ -80,20 +80,29 @@ fn replace<R: Files>(rt: &R, folder: &str, fresh: &str, path: &str, text: &str) 
     File::open(rt, folder)?.sync_all()
 }
 
-/// Saves a folder's ledger: the file is the one before, or the whole of this one, whenever it is interrupted,
-/// and this one once it is saved.
-pub fn save<'a, R: Files + AllocGlobal>(
+/// Writes a folder's file: it is the one before, or the whole of this ledger's, whenever this is interrupted,
+/// and this ledger's once it is written.
+pub(crate) fn write_ledger<R: Files + AllocGlobal>(
     rt: &R,
     folder: &str,
-    ledger: &'a mut Ledger,
-) -> Result<Saved<'a>, EditorFault>
-    ensures { IfOk result (λ saved. saved.ledger.now ≡ ledger.old) }
-{
+    ledger: &Ledger,
+) -> Result<(), EditorFault> {
     let alloc = rt.alloc();
     let text = ledger.spelled(alloc)?;
     let path = ledger_path(alloc, folder)?;
     let fresh = below(alloc, folder, ".published.new")?;
     let (fresh, path) = (fresh.as_str(), path.as_str());
-    at(alloc, path, replace(rt, folder, fresh, path, text.as_str()))?;
-    Ok(Saved { ledger })
+    at(alloc, path, replace(rt, folder, fresh, path, text.as_str()))
+}
+
+/// Saves a folder's ledger.
+pub fn save<'a, R: Files + AllocGlobal>(
+    rt: &R,
+    folder: &'a str,
+    ledger: &'a mut Ledger,
+) -> Result<Saved<'a>, EditorFault>
+    ensures { IfOk result (λ saved. saved.ledger.now ≡ ledger.old) }
+{
+    write_ledger(rt, folder, ledger)?;
+    Ok(Saved { folder, ledger })
 }

@@ -1,3 +1,4 @@
 pub mod Addresses
+pub mod Faults
 pub mod Naming
 pub mod Telling

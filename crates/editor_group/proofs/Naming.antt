@@ -1,9 +1,7 @@
 -- The nodes of URLs, read one after the other.
-use Rattle.std.proofs.Common.{◌≡◌, ◌⊎◌, Result, Ok, Err, IfErr, IsErrAnd, ⊎_elim, inl, inr, ◌+◌, ◌<◌, ◌≤◌, ℕ, zero, suc, List, [], ◌∷◌, ◌++◌, length, take, get_or, refl, sym, ap, subst, arith}
+use Rattle.std.proofs.Common.{◌≡◌, ◌⊎◌, Result, Ok, Err, IfErr, IsErrAnd, inl, inr, ◌+◌, ◌<◌, ◌≤◌, ℕ, zero, suc, List, [], ◌∷◌, ◌++◌, length, take, get_or, refl, sym, ap, subst, arith}
 use Rattle.std.proofs.lemmas.List.{take_more}
-use Rattle.editor_common.specs.Faults.{IsStop, IsOfGroup}
 use Rattle.editor_common.specs.declared.editor_fault.EditorFault.{EditorFault}
-use Rattle.editor_common.specs.declared.editor_fault.EditorFault.TheVariants.{Write, Stop, NoNodes, Clock, OutOfMemory}
 use Rattle.editor_group.specs.Addresses.{AreNamed, IsRefused, Names, NamesNone, OneIsRefused}
 use Rattle.editor_group.specs.declared.address.Address.{Address}
 
@@ -49,20 +47,6 @@ pub one_refused : {X : Type 0} (url_of : X → List ℕ) (xs : List X) (i : ℕ)
 one_refused url_of [] i d why below refused = absurd (omega (arith, below))
 one_refused url_of (x ∷ xs) zero d why below refused = inl refused
 one_refused url_of (x ∷ xs) (suc i) d why below refused = inr (one_refused url_of xs i d why (omega (arith, below)) refused)
-
--- words are a fault of a group
-stop_of_group : (why : EditorFault) → IsStop why → IsOfGroup why
-stop_of_group (Stop words) is = tt
-stop_of_group OutOfMemory is = tt
-stop_of_group _ is = absurd is
-
--- and so is the refusal of a URL
-pub refused_of_group : {X : Type 0} (url_of : X → List ℕ) (xs : List X) (why : EditorFault) → OneIsRefused url_of xs why → IsOfGroup why
-refused_of_group url_of [] why refused = absurd refused
-refused_of_group url_of (x ∷ xs) why refused = ⊎_elim
-    (λ one. ⊎_elim (λ (memory : why ≡ OutOfMemory). subst (λ (f : EditorFault). IsOfGroup f) (sym memory) tt) (λ (none : IsStop why × NamesNone (url_of x)). stop_of_group why none.0) one)
-    (λ later. refused_of_group url_of xs why later)
-    refused
 
 -- what holds of a fault holds of the one that a `?` passes on
 pub passes_on : {T : Type 0} (P : EditorFault → Type 0) (r : Result T EditorFault) (fault : EditorFault) → IsErrAnd r (λ y. y ≡ fault) → P fault → IfErr r P

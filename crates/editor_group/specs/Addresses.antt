@@ -1,7 +1,7 @@
 -- The node that a URL names.
 use Rattle.std.specs.Prelude.{◌≡◌, ◌≢◌, ◌⊎◌, ⊤, ℕ, ◌<◌, List, [], ◌∷◌, ◌++◌, length, slice_index, codes, string_bytes}
 use Rattle.std.specs.Option.{option_map}
-use Rattle.editor_common.specs.Faults.{IsStop}
+use Rattle.editor_common.specs.Faults.{IsStopOrMemory}
 use Rattle.editor_common.specs.declared.editor_fault.EditorFault.{EditorFault}
 use Rattle.editor_common.specs.declared.editor_fault.EditorFault.TheVariants.{OutOfMemory}
 use Rattle.editor_http.specs.Authorities.{login_before, login_shown, host_in}
@@ -54,7 +54,7 @@ NamesNone url = (text : List ℕ) → IsHttp url text → ¬ HasHost text
 
 -- an allocation failed, or the URL names no node, which words say
 abbrev pub IsRefused : List ℕ → EditorFault → Type 0
-IsRefused url why = (why ≡ OutOfMemory) ⊎ (IsStop why × NamesNone url)
+IsRefused url why = (why ≡ OutOfMemory) ⊎ (IsStopOrMemory why × NamesNone url)
 
 -- one of the URLs is refused for this
 abbrev pub OneIsRefused : {X : Type 0} → (X → List ℕ) → List X → EditorFault → Type 0

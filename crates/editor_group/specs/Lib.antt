@@ -1,4 +1,6 @@
 pub mod Published
 pub mod Addresses
 pub mod Confirming
+pub mod Delivering
+pub mod Logins
 pub mod Statuses

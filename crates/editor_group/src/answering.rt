@@ -1,6 +1,6 @@
 //! Which nodes answer, all asked at once.
 ghost use Rattle.std.specs.Prelude.{◌≡◌, length, vec_len, IfErr, IfOk};
-ghost use Rattle.editor_common.specs.Faults.{IsOfGroup};
+ghost use Rattle.editor_common.specs.Faults.{IsOfTalk};
 
 use crate::address::Address;
 use crate::asking::number_in;
@@ -23,7 +23,7 @@ fn ask_newest<'a, R: Net<Stream = TcpStream> + Clock + AllocGlobal>(
     within: u64,
 ) -> Result<Vec<Said<'a>>, EditorFault>
     ensures is { IfOk result (λ all. vec_len all ≡ length group.now.nodes.items) }
-    ensures faults { IfErr result IsOfGroup }
+    ensures faults { IfErr result IsOfTalk }
 {
     let nodes: Vec<&Address> = group.nodes().iter().collect(rt.alloc())?;
     ask_each(rt, &nodes, &[Question::Newest], within)
@@ -35,7 +35,7 @@ pub(crate) fn silent_nodes<R: Net<Stream = TcpStream> + Clock + AllocGlobal>(
     group: &Group,
     within: u64,
 ) -> Result<String, EditorFault>
-    ensures faults { IfErr result IsOfGroup }
+    ensures faults { IfErr result IsOfTalk }
 {
     let mut silent = String::new(rt.alloc());
     for said in &ask_newest(rt, group, within)? {

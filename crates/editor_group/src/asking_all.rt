@@ -1,6 +1,6 @@
 //! The same questions to several nodes at once, so that silent ones cost no more time than one of them.
 ghost use Rattle.std.specs.Prelude.{◌≡◌, length, vec_len, IfErr, IfOk};
-ghost use Rattle.editor_common.specs.Faults.{IsOfGroup};
+ghost use Rattle.editor_common.specs.Faults.{IsOfTalk};
 
 use crate::address::Address;
 use crate::asking::{connect_within, read_answers, write_questions};
@@ -83,7 +83,7 @@ fn begin_talk<'a, R: Clock + AllocGlobal>(
     node: &'a Address,
     questions: &[Question<'_>],
 ) -> Result<Call<'a>, EditorFault>
-    ensures faults { IfErr result IsOfGroup }
+    ensures faults { IfErr result IsOfTalk }
 {
     let since = now(rt)?;
     write_questions(rt.alloc(), &stream, &node.authority, questions)?;
@@ -104,7 +104,7 @@ fn begin<'a, R: Net<Stream = TcpStream> + Clock + AllocGlobal>(
     within: Duration,
     questions: &[Question<'_>],
 ) -> Result<Call<'a>, EditorFault>
-    ensures faults { IfErr result IsOfGroup }
+    ensures faults { IfErr result IsOfTalk }
 {
     match connect_within(rt, node.authority.host.as_str(), within) {
         Ok(stream) => begin_talk(rt, stream, node, questions),
@@ -120,7 +120,7 @@ fn begin_all<'a, R: Net<Stream = TcpStream> + Clock + AllocGlobal>(
     questions: &[Question<'_>],
 ) -> Result<Vec<Call<'a>>, EditorFault>
     ensures is { IfOk result (λ calls. vec_len calls ≡ length nodes.now) }
-    ensures faults { IfErr result IsOfGroup }
+    ensures faults { IfErr result IsOfTalk }
 {
     let share = CONNECTING / (nodes.len() as u64).max(1);
     let mut calls = Vec::new(rt.alloc());
@@ -152,7 +152,7 @@ fn read_talk<'a, R: Clock + AllocGlobal>(
     count: usize,
     left: u64,
 ) -> Result<Said<'a>, EditorFault>
-    ensures faults { IfErr result IsOfGroup }
+    ensures faults { IfErr result IsOfTalk }
 {
     let mut said = silence(rt.alloc(), talk.node, None);
     said.millis = passed(rt, talk.since)?;
@@ -169,7 +169,7 @@ fn news_of<'a, R: Clock + AllocGlobal>(
     count: usize,
     left: u64,
 ) -> Result<Option<Said<'a>>, EditorFault>
-    ensures faults { IfErr result IsOfGroup }
+    ensures faults { IfErr result IsOfTalk }
 {
     match call {
         Call::Waits(talk) if has_come(&talk.stream) => Ok(Some(read_talk(rt, talk, count, left)?)),
@@ -189,7 +189,7 @@ fn look<R: Clock + AllocGlobal>(
     left: u64,
 ) -> Result<bool, EditorFault>
     ensures is { length calls.new ≡ length calls.old }
-    ensures faults { IfErr result IsOfGroup }
+    ensures faults { IfErr result IsOfTalk }
 {
     for call in calls.iter_mut() {
         if let Some(said) = news_of(rt, call, count, left)? {
@@ -207,7 +207,7 @@ fn wait_for_all<R: Clock + AllocGlobal>(
     within: u64,
 ) -> Result<(), EditorFault>
     ensures is { length calls.new ≡ length calls.old }
-    ensures faults { IfErr result IsOfGroup }
+    ensures faults { IfErr result IsOfTalk }
 {
     let since = now(rt)?;
     for _ in 0..u64::MAX {
@@ -242,7 +242,7 @@ pub(crate) fn ask_each<'a, R: Net<Stream = TcpStream> + Clock + AllocGlobal>(
     within: u64,
 ) -> Result<Vec<Said<'a>>, EditorFault>
     ensures is { IfOk result (λ all. vec_len all ≡ length nodes.now) }
-    ensures faults { IfErr result IsOfGroup }
+    ensures faults { IfErr result IsOfTalk }
 {
     let mut calls = begin_all(rt, nodes, questions)?;
     wait_for_all(rt, calls.as_mut_slice(), questions.len(), within)?;

@@ -1,14 +1,13 @@
 //! What is on its way is sent until each has its receipt.
-ghost use Rattle.std.specs.Prelude.{◌≡◌, true, IfErr, OnOk};
-ghost use Rattle.editor_common.specs.Faults.{IsOfGroup, IsStop};
+ghost use Rattle.std.specs.Prelude.{◌≡◌, true, string_bytes, IfErr, IfOk, IsOk, OnOk};
 ghost use Rattle.editor_ledger.specs.Steps.{is_idle};
 ghost use Rattle.editor_plan.specs.Moves.{HearsAnswers};
+ghost use Rattle.editor_group.specs.Delivering.{EndsDelivery, EndsExchange, IsOfNode, NamesNode};
 
 use crate::address::Address;
 use crate::asking::ask_within;
 use crate::group::Group;
 use crate::progress::tell_progress;
-use crate::stop::stop;
 use editor_common::{EditorFault, now, passed, rest};
 use editor_files::Saved;
 use editor_http::{NodeAnswer, Question};
@@ -18,7 +17,7 @@ use site_ids::Ticket;
 use std::alloc::{AllocError, Global};
 use std::io::Write;
 use std::net::{Net, TcpStream};
-use std::rt::Clock;
+use std::rt::{Clock, Files};
 use std::time::Instant;
 
 /// The text that is on its way under a number.
@@ -55,25 +54,55 @@ fn answers_of<N: Net<Stream = TcpStream>>(
     ask_within(net, alloc, node, &questions, within)
 }
 
-/// What a node refused, and its words; or why this client is kept out.
-fn refusal(
+/// What was refused, and the words of the answer; or why this client is kept out.
+fn why_refused(
     alloc: Global,
     node: &Address,
     ledger: &Ledger,
     ask: Ask,
     answer: &NodeAnswer,
 ) -> Result<String, AllocError> {
+    if let Some(why) = node.barred(answer) {
+        return format!(in alloc; "{why}");
+    }
     let head = match ask {
         Ask::Submit(number) => text_under(ledger, number).lines().next().unwrap_or(""),
         Ask::Receipt(_) => "",
     };
-    let url = node.url.as_str();
-    if let Some(why) = node.barred(answer) {
-        return format!(in alloc; "{url}: {why}");
-    }
     let status = answer.status;
     let said = str::from_utf8(&answer.body).unwrap_or("").trim_end();
-    format!(in alloc; "{url}: {head}: answered {status} {said}")
+    format!(in alloc; "{head}: answered {status} {said}")
+}
+
+/// The same, with the node's URL before it.
+fn refusal(
+    alloc: Global,
+    node: &Address,
+    ledger: &Ledger,
+    ask: Ask,
+    answer: &NodeAnswer,
+) -> Result<String, AllocError>
+    ensures { IfOk result (λ words. NamesNode node.now (string_bytes words)) }
+{
+    let why = why_refused(alloc, node, ledger, ask, answer)?;
+    let url = node.url.as_str();
+    format!(in alloc; "{url}: {why}")
+}
+
+/// The fault of a command that a node refuses.
+fn refused(
+    alloc: Global,
+    node: &Address,
+    ledger: &Ledger,
+    ask: Ask,
+    answer: &NodeAnswer,
+) -> EditorFault
+    ensures { IsOfNode node.now result }
+{
+    match refusal(alloc, node, ledger, ask, answer) {
+        Ok(words) => EditorFault::Stop(words),
+        Err(lack) => EditorFault::from(lack),
+    }
 }
 
 /// Hears an answer. A refusal ends the publication.
@@ -86,10 +115,10 @@ fn hear(
     answer: &NodeAnswer,
 ) -> Result<(), EditorFault>
     ensures hears { HearsAnswers saved.old.ledger.now saved.new.ledger.now }
-    ensures faults { IfErr result IsOfGroup }
+    ensures faults { IfErr result (IsOfNode node.now) }
 {
     match saved.hear(flight, ask, answer.status)? {
-        Heard::Refused => Err(stop(refusal(alloc, node, saved.ledger(), ask, answer))),
+        Heard::Refused => Err(refused(alloc, node, saved.ledger(), ask, answer)),
         _ => Ok(()),
     }
 }
@@ -104,7 +133,7 @@ fn hear_all(
     answers: &[NodeAnswer],
 ) -> Result<(), EditorFault>
     ensures hears { HearsAnswers saved.old.ledger.now saved.new.ledger.now }
-    ensures faults { IfErr result IsOfGroup }
+    ensures faults { IfErr result (IsOfNode node.now) }
 {
     for (ask, answer) in asks.iter().zip(answers) {
         hear(alloc, flight, node, saved, *ask, answer)?;
@@ -122,7 +151,7 @@ fn exchange<N: Net<Stream = TcpStream>>(
     within: u64,
 ) -> Result<bool, EditorFault>
     ensures hears { HearsAnswers saved.old.ledger.now saved.new.ledger.now }
-    ensures faults { IfErr result IsOfGroup }
+    ensures faults { IfErr result (IsOfNode node.now) }
 {
     let asks = flight.asks(alloc, saved.ledger().sent())?;
     let answers = answers_of(net, alloc, node, saved.ledger(), &asks, within)?;
@@ -131,6 +160,7 @@ fn exchange<N: Net<Stream = TcpStream>>(
 }
 
 /// One connection to the node that is spoken to, and what came of it.
+#[tactic(auto, using(crate::proofs::Faults::node_ends_exchange))]
 fn bring<N: Net<Stream = TcpStream>>(
     net: &N,
     alloc: Global,
@@ -140,7 +170,7 @@ fn bring<N: Net<Stream = TcpStream>>(
     within: u64,
 ) -> Result<Came, EditorFault>
     ensures hears { HearsAnswers saved.old.ledger.now saved.new.ledger.now }
-    ensures faults { IfErr result IsOfGroup }
+    ensures faults { IfErr result (EndsExchange group.now) }
 {
     let before = saved.ledger().sent().len();
     let answered = exchange(net, alloc, flight, group.node()?, saved, within)?;
@@ -163,16 +193,21 @@ fn turn<C: Clock>(clock: &C, alloc: Global, flight: &mut Flight, group: &mut Gro
 }
 
 /// Why nothing is sent any longer.
-fn too_slow(alloc: Global, patience: u64) -> EditorFault
-    ensures { IsStop result }
+fn too_slow(alloc: Global, group: &Group, patience: u64) -> EditorFault
+    ensures { EndsDelivery patience group.now result }
 {
-    stop(format!(in alloc;
+    let words = format!(in alloc;
         "no progress in {patience} seconds: is a majority of the nodes running? Run it again, and it goes on"
-    ))
+    );
+    match words {
+        Ok(words) => EditorFault::Stop(words),
+        Err(lack) => EditorFault::from(lack),
+    }
 }
 
 /// Sends, as the clock says, until nothing is on its way.
-fn deliver_at<R: Net<Stream = TcpStream> + Clock + AllocGlobal, E: Write>(
+#[tactic(auto, using(crate::proofs::Faults::exchange_ends_delivery, crate::proofs::Faults::talk_ends_delivery))]
+fn deliver_at<R: Net<Stream = TcpStream> + Files + Clock + AllocGlobal, E: Write>(
     rt: &R,
     err: &mut E,
     group: &mut Group,
@@ -184,7 +219,7 @@ fn deliver_at<R: Net<Stream = TcpStream> + Clock + AllocGlobal, E: Write>(
     ensures idle { OnOk result (is_idle saved.new.ledger.now ≡ true) }
     ensures hears { HearsAnswers saved.old.ledger.now saved.new.ledger.now }
     ensures nodes { group.new.nodes ≡ group.old.nodes }
-    ensures faults { IfErr result IsOfGroup }
+    ensures faults { IfErr result (EndsDelivery patience group.new) }
 {
     let mut progress = Progress::new(saved.ledger().sent().len());
     let mut clock = DeliveryClock::new();
@@ -195,20 +230,20 @@ fn deliver_at<R: Net<Stream = TcpStream> + Clock + AllocGlobal, E: Write>(
         let within = clock.within(passed(rt, since)?, patience);
         let came = bring(rt, rt.alloc(), flight, group, saved, within)?;
         let now = passed(rt, since)?;
-        let left = saved.ledger().sent().len();
-        tell_progress(rt, err, group, &mut progress, now, left, came)?;
+        tell_progress(rt, err, group, saved, &mut progress, now, came)?;
         match clock.step(came, now, patience) {
             Step::Again(millis) => rest(rt, millis),
             Step::Next => turn(rt, rt.alloc(), flight, group),
-            Step::GiveUp => return Err(too_slow(rt.alloc(), patience)),
+            Step::GiveUp => return Err(too_slow(rt.alloc(), group, patience)),
         }
     }
     Err(EditorFault::Clock)
 }
 
 /// Sends what is on its way in a ledger that was saved, until each has its receipt. It stays with a node
-/// while receipts come there, and gives up where none came for so many seconds.
-pub fn deliver<R: Net<Stream = TcpStream> + Clock + AllocGlobal, E: Write>(
+/// while receipts come there, and gives up where none came for so many seconds. The ledger is saved meanwhile
+/// too, as it tells how far it is.
+pub fn deliver<R: Net<Stream = TcpStream> + Files + Clock + AllocGlobal, E: Write>(
     rt: &R,
     err: &mut E,
     group: &mut Group,
@@ -216,10 +251,15 @@ pub fn deliver<R: Net<Stream = TcpStream> + Clock + AllocGlobal, E: Write>(
     patience: u64,
 ) -> Result<(), EditorFault>
     ensures idle { OnOk result (is_idle saved.new.ledger.now ≡ true) }
+    ensures nothing { is_idle saved.old.ledger.now ≡ true → IsOk result }
     ensures hears { HearsAnswers saved.old.ledger.now saved.new.ledger.now }
     ensures nodes { group.new.nodes ≡ group.old.nodes }
-    ensures faults { IfErr result IsOfGroup }
+    ensures faults { IfErr result (EndsDelivery patience group.new) }
 {
+    let nothing = saved.ledger().is_idle();
+    if nothing {
+        return Ok(());
+    }
     let mut flight = Flight::new(rt.alloc());
     let since = now(rt)?;
     deliver_at(rt, err, group, saved, &mut flight, since, patience)

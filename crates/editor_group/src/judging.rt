@@ -1,14 +1,13 @@
 //! Whether a ledger is the newest of its editor, as the group says.
-ghost use Rattle.std.specs.Prelude.{◌≡◌, ◌∷◌, [], length, vec_len, IfErr, IfOk, OnOk};
-ghost use Rattle.editor_common.specs.Faults.{IsOfGroup};
+ghost use Rattle.std.specs.Prelude.{◌≡◌, ◌<◌, ◌∷◌, [], length, vec_len, false, IfErr, IfOk, OnOk, string_bytes};
+ghost use Rattle.editor_common.specs.Faults.{IsOfTalk};
 ghost use Rattle.editor_plan.specs.Standings.{last_shown as shown_last, last_ticket as ticket_last};
-ghost use Rattle.editor_group.specs.Confirming.{IsConfirmed, Stands};
+ghost use Rattle.editor_group.specs.Confirming.{IsConfirmed, IsOfGroup, Refuses, SaysWhy, Stands, waited_for};
 
 use crate::address::Address;
 use crate::asking::number_in;
 use crate::asking_all::{Said, ask_each, silent_urls};
 use crate::group::Group;
-use crate::stop::stop;
 use editor_common::{EditorFault, now, passed, rest, say_made};
 use editor_http::{NodeAnswer, Question};
 use editor_ledger::Ledger;
@@ -130,22 +129,65 @@ fn reason(
     match found {
         Standing::Older => {
             format!(in alloc;
-                "{folder}/published: is older than what the group has of editor {editor}, whose command {next} is in the log already. Another copy of this folder has published, or this file went back.\nTake the newest copy of the file and publish again. Or move it away (log, restore and publish --release need it), and publish with --take-over: what the folder has no more is then to be listed in its file removes"
+                "its file published is older than what the group has of editor {editor}, whose command {next} is in the log already. Another copy of this folder has published, or this file went back.\nTake the newest copy of the file and publish again. Or move it away (log, restore and publish --release need it), and publish with --take-over: what the folder has no more is then to be listed in its file removes"
             )
         }
         Standing::Elsewhere => {
             format!(in alloc;
-                "{folder}/published: no node that answers has command {last} of editor {editor}, so nothing was sent. Nodes that were down need a majority to learn what they had: see that one runs, and publish again.\nIf this is another group, or a new one, move the file away (log, restore and publish --release need it), and publish with --take-over: mv {folder}/published {folder}.published"
+                "no node that answers has command {last} of editor {editor}, which is in the file published, so nothing was sent. Nodes that were down need a majority to learn what they had: see that one runs, and publish again.\nIf this is another group, or a new one, move the file away (log, restore and publish --release need it), and publish with --take-over: mv {folder}/published {folder}.published"
             )
         }
         Standing::Returning => {
             format!(in alloc;
-                "{folder}: the group is still coming back: its nodes show older releases than {shown}, which this folder made. Nothing was sent. See that a majority of its nodes runs (sitepub status), and publish again.\nIf this is another group, or a new one, move the file away (log, restore and publish --release need it), and publish with --take-over: mv {folder}/published {folder}.published"
+                "no node that answers shows release {shown}, which this folder made, so nothing was sent: the group is still coming back, or is another one. See that a majority of its nodes runs (sitepub status), and publish again.\nIf this is another group, or a new one, move the file published away (log, restore and publish --release need it), and publish with --take-over: mv {folder}/published {folder}.published"
             )
         }
         Standing::Unanswered | Standing::Newest => {
             String::from_str(alloc, "no node answers: nothing was sent")
         }
+    }
+}
+
+/// The same, with the folder before it, and for how many seconds something else was waited for, if it was.
+fn refusal(
+    alloc: Global,
+    folder: &str,
+    claim: Claim,
+    found: Standing,
+    waited: Option<u64>,
+) -> Result<String, AllocError>
+    ensures { IfOk result (λ words. SaysWhy folder.now waited (string_bytes words)) }
+{
+    let why = reason(alloc, folder, claim, found)?;
+    match waited {
+        Some(patience) => format!(in alloc; "{folder}: after {patience} seconds {why}"),
+        None => format!(in alloc; "{folder}: {why}"),
+    }
+}
+
+/// The fault of a ledger that is refused so.
+fn refused(
+    alloc: Global,
+    folder: &str,
+    claim: Claim,
+    found: Standing,
+    waited: Option<u64>,
+) -> EditorFault
+    ensures { Refuses folder.now waited result }
+{
+    match refusal(alloc, folder, claim, found, waited) {
+        Ok(words) => EditorFault::Stop(words),
+        Err(lack) => EditorFault::from(lack),
+    }
+}
+
+/// For how many seconds another standing was waited for, before a publication is refused for this one.
+fn waited_for(found: Standing, patience: u64) -> Option<u64>
+    ensures { result ≡ waited_for patience found }
+{
+    match found {
+        Standing::Older | Standing::Newest => None,
+        Standing::Elsewhere | Standing::Returning | Standing::Unanswered => Some(patience),
     }
 }
 
@@ -162,7 +204,18 @@ fn why_silent(alloc: Global, said: &Said<'_>) -> Result<String, AllocError> {
     }
 }
 
+/// Why nothing is waited for.
+fn nothing_sent(alloc: Global) -> EditorFault
+    ensures { IsOfGroup result }
+{
+    match String::from_str(alloc, "nothing was sent") {
+        Ok(words) => EditorFault::Stop(words),
+        Err(lack) => EditorFault::from(lack),
+    }
+}
+
 /// Tells why no node answers. If one keeps this client out nothing is waited for.
+#[tactic(auto, using(crate::proofs::Faults::talk_of_group))]
 fn tell_unanswered<E: Write>(
     alloc: Global,
     err: &mut E,
@@ -176,14 +229,14 @@ fn tell_unanswered<E: Write>(
         barred |= said.barred().is_some();
     }
     if barred {
-        return Err(stop(String::from_str(alloc, "nothing was sent")));
+        return Err(nothing_sent(alloc));
     }
     Ok(())
 }
 
 /// Tells which nodes were waited for in vain, if some were.
 fn tell_waited<E: Write>(alloc: Global, err: &mut E, all: &[Said<'_>]) -> Result<(), EditorFault>
-    ensures faults { IfErr result IsOfGroup }
+    ensures faults { IfErr result IsOfTalk }
 {
     let silent = silent_urls(alloc, all)?;
     if silent.is_empty() {
@@ -196,15 +249,20 @@ fn tell_waited<E: Write>(alloc: Global, err: &mut E, all: &[Said<'_>]) -> Result
     )
 }
 
-/// Tells what kept the first questions from being answered.
+/// Tells what kept questions from being answered, the first time that nodes were asked.
+#[tactic(auto, using(crate::proofs::Faults::talk_of_group))]
 fn tell_first<E: Write>(
     alloc: Global,
     err: &mut E,
     all: &[Said<'_>],
     found: Standing,
+    times: u64,
 ) -> Result<(), EditorFault>
     ensures faults { IfErr result IsOfGroup }
 {
+    if times != 0 || all.is_empty() {
+        return Ok(());
+    }
     if found == Standing::Unanswered {
         tell_unanswered(alloc, err, all)
     } else {
@@ -219,14 +277,16 @@ struct Found {
     first: Option<usize>,
 }
 
-/// Asks all nodes at once, which were asked so many times before, and tells the first time what keeps some
-/// from answering.
+/// Asks all nodes at once, which were asked so many times before and have so many milliseconds to answer, and
+/// tells the first time what keeps some from answering.
+#[tactic(auto, using(crate::proofs::Faults::talk_of_group))]
 fn ask_group<R: Net<Stream = TcpStream> + Clock + AllocGlobal, E: Write>(
     rt: &R,
     err: &mut E,
     group: &Group,
     claim: Claim,
     times: u64,
+    within: u64,
 ) -> Result<Found, EditorFault>
     ensures is { IfOk result (λ found.
         Stands (length group.now.nodes.items) claim.last claim.shown found.standing) }
@@ -234,12 +294,10 @@ fn ask_group<R: Net<Stream = TcpStream> + Clock + AllocGlobal, E: Write>(
 {
     let alloc = rt.alloc();
     let nodes: Vec<&Address> = group.nodes().iter().collect(alloc)?;
-    let all = ask_each(rt, &nodes, &questions_of(claim), answers_within(times))?;
+    let all = ask_each(rt, &nodes, &questions_of(claim), within)?;
     let witnesses = witnesses_in(alloc, &all)?;
     let standing = standing_of(claim.last, claim.shown, &witnesses);
-    if times == 0 {
-        tell_first(alloc, err, &all, standing)?;
-    }
+    tell_first(alloc, err, &all, standing, times)?;
     Ok(Found {
         standing,
         first: confirming(claim, &witnesses),
@@ -255,7 +313,7 @@ fn tell_waiting<E: Write>(
     patience: u64,
     found: Standing,
 ) -> Result<(), EditorFault>
-    ensures faults { IfErr result IsOfGroup }
+    ensures faults { IfErr result IsOfTalk }
 {
     let Claim {
         editor,
@@ -275,23 +333,15 @@ fn tell_waiting<E: Write>(
     say_made(err, line)
 }
 
-/// Whether a standing is one that is not waited for any longer.
-fn is_final<C: Clock>(
-    clock: &C,
-    since: Instant,
-    patience: u64,
-    found: Standing,
-) -> Result<bool, EditorFault>
-    ensures faults { IfErr result IsOfGroup }
+/// Whether a standing is one that is not waited for any longer, after so many milliseconds.
+fn is_final(passed: u64, patience: u64, found: Standing) -> bool
+    ensures { result ≡ false → 0 < patience }
 {
-    Ok(
-        found == Standing::Newest
-            || found == Standing::Older
-            || passed(clock, since)? / 1000 >= patience,
-    )
+    found == Standing::Newest || found == Standing::Older || passed / 1000 >= patience
 }
 
 /// How a ledger stands to a group once it is confirmed or refused, or so many seconds have passed.
+#[tactic(auto, using(crate::proofs::Faults::talk_of_group))]
 fn settled<R: Net<Stream = TcpStream> + Clock + AllocGlobal, E: Write>(
     rt: &R,
     err: &mut E,
@@ -306,8 +356,9 @@ fn settled<R: Net<Stream = TcpStream> + Clock + AllocGlobal, E: Write>(
 {
     let since = now(rt)?;
     for times in 0..u64::MAX {
-        let Found { standing, first } = ask_group(rt, err, group, claim, times)?;
-        if is_final(rt, since, patience, standing)? {
+        let within = answers_within(times, passed(rt, since)?, patience);
+        let Found { standing, first } = ask_group(rt, err, group, claim, times, within)?;
+        if is_final(passed(rt, since)?, patience, standing) {
             group.speak_to(first);
             return Ok(standing);
         }
@@ -344,17 +395,18 @@ pub fn look_at<R: Net<Stream = TcpStream> + Clock + AllocGlobal, E: Write>(
     ensures faults { IfErr result IsOfGroup }
 {
     let claim = claim_of(ledger);
-    let Found { standing, first } = ask_group(rt, err, group, claim, 0)?;
+    let Found { standing, first } = ask_group(rt, err, group, claim, 0, FIRST_ANSWERS)?;
     group.speak_to(first);
     Ok(match standing {
         Standing::Newest => Look::Confirmed,
         Standing::Unanswered => Look::Unanswered,
-        found => Look::Refused(stop(reason(rt.alloc(), folder, claim, found))),
+        found => Look::Refused(refused(rt.alloc(), folder, claim, found, None)),
     })
 }
 
 /// Asks until a node confirms that a folder's ledger is the newest of its editor, which is spoken to from
 /// then on; or one says that there is a newer one, or so many seconds have passed: then it is refused.
+#[tactic(auto, using(crate::proofs::Faults::refusal_of_group))]
 pub fn confirm<R: Net<Stream = TcpStream> + Clock + AllocGlobal, E: Write>(
     rt: &R,
     err: &mut E,
@@ -370,6 +422,9 @@ pub fn confirm<R: Net<Stream = TcpStream> + Clock + AllocGlobal, E: Write>(
     let claim = claim_of(ledger);
     match settled(rt, err, folder, group, claim, patience)? {
         Standing::Newest => Ok(()),
-        found => Err(stop(reason(rt.alloc(), folder, claim, found))),
+        found => {
+            let waited = waited_for(found, patience);
+            Err(refused(rt.alloc(), folder, claim, found, waited))
+        }
     }
 }

@@ -1,6 +1,6 @@
 //! What nodes say of themselves, all asked at once.
 ghost use Rattle.std.specs.Prelude.{◌≡◌, length, vec_len, IfErr, IfOk, None};
-ghost use Rattle.editor_common.specs.Faults.{IsOfGroup};
+ghost use Rattle.editor_common.specs.Faults.{IsOfTalk};
 ghost use Rattle.editor_plan.specs.Standings.{last_shown};
 ghost use Rattle.editor_group.specs.Published.{ticket_of};
 
@@ -118,7 +118,7 @@ fn ask_again<'a, R: Net<Stream = TcpStream> + Clock + AllocGlobal, E: Write>(
     questions: &[Question<'_>],
 ) -> Result<(), EditorFault>
     ensures is { length all.new ≡ length all.old }
-    ensures faults { IfErr result IsOfGroup }
+    ensures faults { IfErr result IsOfTalk }
 {
     let silent = those_silent(rt.alloc(), all)?;
     if silent.is_empty() {
@@ -151,7 +151,7 @@ fn first_reports<'a, R: Net<Stream = TcpStream> + Clock + AllocGlobal, E: Write>
     published: Published,
 ) -> Result<Vec<Report<'a>>, EditorFault>
     ensures is { IfOk result (λ reports. vec_len reports ≡ length nodes.now) }
-    ensures faults { IfErr result IsOfGroup }
+    ensures faults { IfErr result IsOfTalk }
 {
     let questions = questions_of(rt.alloc(), published)?;
     let asked: Vec<&Address> = nodes.iter().collect(rt.alloc())?;
@@ -194,7 +194,7 @@ fn ask_pages<R: Net<Stream = TcpStream> + Clock + AllocGlobal>(
     release: u64,
 ) -> Result<(), EditorFault>
     ensures is { length reports.new ≡ length reports.old }
-    ensures faults { IfErr result IsOfGroup }
+    ensures faults { IfErr result IsOfTalk }
 {
     let answering = those_that_answer(rt.alloc(), reports)?;
     let question = [Question::Page(release, "/")];
@@ -215,7 +215,7 @@ pub(crate) fn reports_of<'a, R: Net<Stream = TcpStream> + Clock + AllocGlobal, E
     published: Published,
 ) -> Result<Vec<Report<'a>>, EditorFault>
     ensures is { IfOk result (λ reports. vec_len reports ≡ length nodes.now) }
-    ensures faults { IfErr result IsOfGroup }
+    ensures faults { IfErr result IsOfTalk }
 {
     let mut reports = first_reports(rt, err, nodes, published)?;
     let common = range_of(&reports).common;

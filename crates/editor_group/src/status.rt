@@ -1,9 +1,9 @@
 //! What each node of a group says of itself, told.
 ghost use Rattle.std.specs.Prelude.{◌≡◌, ◌==◌, ◌&&◌, nat_le, if◌then◌else◌, length, IfErr, IfOk, OnOk, Some, None};
-ghost use Rattle.editor_common.specs.Faults.{IsOfGroup};
+ghost use Rattle.editor_common.specs.Faults.{IsOfTalk};
 ghost use Rattle.serde_json.specs.View.{view};
 ghost use Rattle.editor_common.specs.Outcomes.{kept};
-ghost use Rattle.editor_group.specs.Statuses.{is_well, EndsStatus, IsNode, TellsCommands, TellsNodes};
+ghost use Rattle.editor_group.specs.Statuses.{is_well, EndsStatus, EndsTelling, IsNode, TellsCommands, TellsNodes};
 
 use crate::group::Group;
 use crate::reports::{Published, Range, Report, range_of, reports_of};
@@ -77,7 +77,7 @@ fn tell_answer<W: Write>(
     range: Range,
     same: Option<bool>,
 ) -> Result<(), EditorFault>
-    ensures faults { IfErr result IsOfGroup }
+    ensures faults { IfErr result IsOfTalk }
 {
     let behind = range.last.saturating_sub(newest);
     let page = match same {
@@ -98,7 +98,7 @@ fn tell<W: Write>(
     row: Row,
     range: Range,
 ) -> Result<(), EditorFault>
-    ensures faults { IfErr result IsOfGroup }
+    ensures faults { IfErr result IsOfTalk }
 {
     let url = report.node.url.as_str();
     match row.newest {
@@ -134,7 +134,7 @@ fn node_value(alloc: Global, report: &Report<'_>, row: Row) -> Result<Value, All
 }
 
 fn tell_head<W: Write>(alloc: Global, out: &mut W, common: u64) -> Result<(), EditorFault>
-    ensures faults { IfErr result IsOfGroup }
+    ensures faults { IfErr result IsOfTalk }
 {
     say_made(
         out,
@@ -151,7 +151,7 @@ fn tell_all<W: Write>(
     range: Range,
 ) -> Result<bool, EditorFault>
     ensures is { IfOk result (λ well. TellsNodes (length reports.now) range.last well (kept outcome.new)) }
-    ensures faults { IfErr result IsOfGroup }
+    ensures faults { IfErr result IsOfTalk }
 {
     tell_head(alloc, out, range.common)?;
     let first = reports.iter().find_map(|report| report.page.as_ref());
@@ -174,7 +174,7 @@ fn tell_barred<W: Write>(
     out: &mut W,
     reports: &[Report<'_>],
 ) -> Result<(), EditorFault>
-    ensures faults { IfErr result IsOfGroup }
+    ensures faults { IfErr result IsOfTalk }
 {
     for report in reports {
         if let Some(why) = report.barred {
@@ -193,7 +193,7 @@ fn tell_commands<W: Write>(
     reports: &[Report<'_>],
 ) -> Result<(), EditorFault>
     ensures is { OnOk result (TellsCommands (kept outcome.old) (kept outcome.new)) }
-    ensures faults { IfErr result IsOfGroup }
+    ensures faults { IfErr result IsOfTalk }
 {
     let least = reports.iter().filter_map(|report| report.instance).max();
     outcome.put(alloc, "commands_at_least", Value::from(least))?;
@@ -216,7 +216,7 @@ fn tell_returning<W: Write>(
     shown: u64,
 ) -> Result<bool, EditorFault>
     ensures is { IfOk result (λ is. is ≡ nat_le shown last) }
-    ensures faults { IfErr result IsOfGroup }
+    ensures faults { IfErr result IsOfTalk }
 {
     if last >= shown {
         return Ok(true);
@@ -261,7 +261,7 @@ pub fn tell_status<R: Net<Stream = TcpStream> + Clock + AllocGlobal, W: Write, E
 ) -> Result<u8, EditorFault>
     ensures is { IfOk result (λ status.
         EndsStatus (length urls.now) published.release status (kept outcome.new)) }
-    ensures faults { IfErr result IsOfGroup }
+    ensures faults { IfErr result (EndsTelling (λ url. url.now) urls.now) }
 {
     let alloc = rt.alloc();
     let group = Group::of(alloc, urls)?;

@@ -1,13 +1,13 @@
 //! A run that stops, and why.
 
-ghost use Rattle.editor_common.specs.Faults.{IsStop};
+ghost use Rattle.editor_common.specs.Faults.{IsStopOrMemory};
 
 use editor_common::EditorFault;
 use std::alloc::AllocError;
 
 /// A fault with these words, where there was memory to make them.
 pub(crate) fn stop(words: Result<String, AllocError>) -> EditorFault
-    ensures { IsStop result }
+    ensures { IsStopOrMemory result }
 {
     match words {
         Ok(words) => EditorFault::Stop(words),

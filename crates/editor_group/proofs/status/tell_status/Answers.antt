@@ -1,9 +1,9 @@
-use Rattle.std.proofs.Common.{Bor, List, ℕ, ap, ◌∙◌, length}
-use Rattle.editor_common.specs.Faults.{IsOfGroup}
+use Rattle.std.proofs.Common.{Bor, List, ℕ, ap, ◌∙◌, length, inl}
 use Rattle.serde_json.specs.View.{view}
 use Rattle.editor_common.specs.Outcomes.{kept}
-use Rattle.editor_group.proofs.Naming.{as_many, passes_on, refused_of_group}
+use Rattle.editor_group.proofs.Naming.{as_many, passes_on}
 use Rattle.editor_group.proofs.Telling.{ends_status}
+use Rattle.editor_group.specs.Statuses.{EndsTelling}
 use Rattle.editor_group.proofs.status.tell_status.Goals as goal
 
 pub returns-clause-is : goal.returns-clause-is
@@ -18,4 +18,4 @@ returns-clause-is g c =
 pub returns-in_err-group-clause-faults : goal.returns-in_err-group-clause-faults
 returns-in_err-group-clause-faults g c =
     let why = c.in_err-group.field-0.0 in
-    passes_on IsOfGroup c.from_residual.result why c.from_residual.ensures.1 (refused_of_group (λ (url : Bor (List ℕ)). url.now) c.args.urls.now why c.in_err-group.ensures.refused)
+    passes_on (EndsTelling (λ (url : Bor (List ℕ)). url.now) c.args.urls.now) c.from_residual.result why c.from_residual.ensures.1 (inl c.in_err-group.ensures.refused)
