@@ -1,7 +1,7 @@
 //! The command line of `sitepub`.
-ghost use Rattle.std.specs.Prelude.{◌≡◌, [], unwrap_or, IfOk};
+ghost use Rattle.std.specs.Prelude.{◌≡◌, [], map, unwrap_or, codes, IfOk};
 ghost use Rattle.clap.specs.Words.{first_value, found_of};
-ghost use Rattle.editor_options.specs.Words.{IsPublication};
+ghost use Rattle.editor_options.specs.Words.{IsNumber, IsNumberOr, IsPublication, values_given};
 
 use crate::arguments::{
     flag, folder_word, ignore_flag, option, site_word, taking, value, with_word,
@@ -290,11 +290,34 @@ fn text<'a>(matches: &ArgMatches<'a>, id: &str) -> &'a str
 }
 
 /// All that were given as a URL.
-fn urls<'a>(alloc: Global, matches: &ArgMatches<'a>) -> Result<Vec<&'a str>, AllocError> {
+fn urls<'a>(alloc: Global, matches: &ArgMatches<'a>) -> Result<Vec<&'a str>, AllocError>
+    ensures { IfOk result (λ urls. map (λ u. u.now) urls.items ≡ values_given (found_of matches.now) (codes "url")) }
+{
     match matches.get_strs("url") {
         Some(given) => Vec::from_slice(alloc, given),
         None => Ok(Vec::new(alloc)),
     }
+}
+
+/// The number of an editor, if one was given.
+fn editor_in(found: &ArgMatches<'_>) -> Option<u32>
+    ensures { IsNumber (found_of found.now) (codes "editor") result }
+{
+    found.get_one::<u32>("editor")
+}
+
+/// The number of a release, if one was given.
+fn release_in(found: &ArgMatches<'_>) -> Option<u64>
+    ensures { IsNumber (found_of found.now) (codes "release") result }
+{
+    found.get_one::<u64>("release")
+}
+
+/// For how many seconds something is waited for.
+fn patience_in(found: &ArgMatches<'_>) -> u64
+    ensures { IsNumberOr (found_of found.now) (codes "patience") PATIENCE result }
+{
+    found.get_one::<u64>("patience").unwrap_or(PATIENCE)
 }
 
 fn publish_in<'a>(alloc: Global, found: &ArgMatches<'a>) -> Result<PublishWord<'a>, AllocError>
@@ -304,12 +327,12 @@ fn publish_in<'a>(alloc: Global, found: &ArgMatches<'a>) -> Result<PublishWord<'
         folder: text(found, "folder"),
         urls: urls(alloc, found)?,
         logins: found.get_str("logins"),
-        editor: found.get_one::<u32>("editor"),
-        patience: found.get_one::<u64>("patience").unwrap_or(PATIENCE),
+        editor: editor_in(found),
+        patience: patience_in(found),
         dry_run: found.get_flag("dry-run"),
         exit_code: found.get_flag("exit-code"),
         take_over: found.get_flag("take-over"),
-        release: found.get_one::<u64>("release"),
+        release: release_in(found),
         message: found.get_str("message"),
         ignore: found.get_flag("ignore"),
     })
@@ -347,12 +370,12 @@ fn file_word_of<'a>(name: &str, found: &ArgMatches<'a>) -> Option<FileWord<'a>> 
         },
         "frame" => FileWord::Frame {
             folder,
-            editor: found.get_one::<u32>("editor").unwrap_or(FRAMER),
+            editor: editor_in(found).unwrap_or(FRAMER),
             ignore: found.get_flag("ignore"),
         },
         "restore" => FileWord::Restore {
             folder,
-            release: found.get_one::<u64>("release").unwrap_or(0),
+            release: release_in(found).unwrap_or(0),
             out: text(found, "out"),
         },
         _ => return None,

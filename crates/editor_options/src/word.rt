@@ -71,18 +71,29 @@ pub struct CheckWord<'a> {
     pub unused: bool,
 }
 
+/// How a folder is published.
 #[derive(Drop)]
 pub struct PublishWord<'a> {
     pub folder: &'a str,
+    /// The nodes, by the URLs as they were given.
     pub urls: Vec<&'a str>,
+    /// The file of their logins.
     pub logins: Option<&'a str>,
+    /// The editor's number; without one it is that of the file `published`, or picked at random.
     pub editor: Option<u32>,
+    /// How many seconds may pass without progress.
     pub patience: u64,
+    /// Nothing is sent: what would be is told.
     pub dry_run: bool,
+    /// The status says whether a dry run found something to send.
     pub exit_code: bool,
+    /// What others have put is taken over.
     pub take_over: bool,
+    /// The release of this folder that becomes the next one; without one the folder does.
     pub release: Option<u64>,
+    /// What is said of the release that is made.
     pub message: Option<&'a str>,
+    /// Files that are no part of a site are passed over.
     pub ignore: bool,
 }
 

@@ -1,2 +1,3 @@
 pub mod Endings
+pub mod Numbers
 pub mod Taking

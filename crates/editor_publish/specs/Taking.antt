@@ -1,5 +1,5 @@
 -- Which paths are taken over, by what a node answers for each of them.
-use Rattle.std.specs.Prelude.{ℕ, ◌+◌, ◌==◌, ◌&&◌, List, [], ◌∷◌, Bool, true, false, if◌then◌else◌, Option, Some, None, string_bytes, slice_get, unwrap_or, Vec}
+use Rattle.std.specs.Prelude.{ℕ, ◌+◌, ◌==◌, ◌&&◌, not, List, [], ◌∷◌, Bool, true, false, if◌then◌else◌, Option, Some, None, string_bytes, slice_get, unwrap_or, Vec}
 use Rattle.std.specs.List.{list_any}
 use Rattle.std.specs.Str.{bytes_eq}
 use Rattle.std.specs.declared.alloc.Global.{Global}
@@ -30,3 +30,12 @@ taken_of states place (path ∷ paths) (answer ∷ answers) =
     if takes answer place states
     then path ∷ taken_of states (place + 1) paths answers
     else taken_of states (place + 1) paths answers
+
+-- those that are not the folder's own, be it that nothing is there any more
+abbrev pub others_of : List (Vec View Global) → ℕ → List (List ℕ) → List NodeAnswer → List (List ℕ)
+others_of states place [] answers = []
+others_of states place (path ∷ paths) [] = []
+others_of states place (path ∷ paths) (answer ∷ answers) =
+    if not (is_own answer place states)
+    then path ∷ others_of states (place + 1) paths answers
+    else others_of states (place + 1) paths answers

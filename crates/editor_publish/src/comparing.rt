@@ -22,6 +22,9 @@ pub(crate) struct Change {
     pub view: View,
 }
 
+/// The status of a page that another editor put, as far as a change tells it: something is there.
+const THERE: u16 = 200;
+
 /// Adds the paths that texts are about.
 pub(crate) fn add_paths(
     alloc: Global,
@@ -70,12 +73,38 @@ pub(crate) fn changes_of(
     differing(alloc, &olds, news)
 }
 
+/// The same changes but for the pages that are left to another editor, and the pages that are taken over.
+pub(crate) fn with_taken(
+    alloc: Global,
+    changes: Vec<Change>,
+    wanted: &[&str],
+    taken: &[String],
+    left: &[String],
+) -> Result<Vec<Change>, AllocError> {
+    let mut all = Vec::new(alloc);
+    for change in changes {
+        if !left.contains(&change.view.path) && !taken.contains(&change.view.path) {
+            all.push(change)?;
+        }
+    }
+    for view in views_of(alloc, wanted, taken)? {
+        all.push(Change {
+            before: THERE,
+            view,
+        })?;
+    }
+    Ok(all)
+}
+
 /// The pages that differ between what a ledger says that the group has and the texts after.
 pub(crate) fn changes_since(
     alloc: Global,
     ledger: &Ledger,
     after: &[&str],
 ) -> Result<Vec<Change>, AllocError> {
+    if ledger.next_texts(alloc, after)?.is_empty() {
+        return Ok(Vec::new(alloc));
+    }
     let kept: Vec<&str> = ledger
         .kept()
         .iter()
@@ -146,7 +175,7 @@ fn tell_why<E: Write>(alloc: Global, err: &mut E, otherwise: usize) -> Result<()
     say_made(
         err,
         format!(in alloc;
-            "pages that this folder renders otherwise: {otherwise}. Another editor has put a name that they use, or another copy of this folder was published at the same time. To put all of the folder again move its file published away (log, restore and publish --release need it), and publish with --take-over"
+            "pages that this folder renders otherwise: {otherwise}. Another editor has put or removed a name that they use, or another copy of this folder was published at the same time. To put these pages again publish with --take-over"
         ),
     )
 }

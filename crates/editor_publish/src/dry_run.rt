@@ -1,5 +1,6 @@
 //! What would be published.
-use crate::comparing::{Change, changes_since};
+use crate::comparing::{Change, changes_since, with_taken};
+use crate::taking_over::{Taken, plan_again, with_staying};
 use editor_common::{EditorFault, Outcome, say, say_made};
 use editor_ledger::{Ledger, Sent};
 use editor_plan::{Stage, advance};
@@ -50,32 +51,26 @@ fn tell_sent<W: Write>(alloc: Global, out: &mut W, sent: &[Sent]) -> Result<(), 
     Ok(())
 }
 
-/// What becomes of a page; the group has one at the paths that are taken over.
-fn change_name(change: &Change, taken: &[String]) -> &'static str {
-    let is_there = change.before != 404 || taken.contains(&change.view.path);
-    match (is_there, change.view.status) {
+/// What becomes of a page.
+fn change_name(change: &Change) -> &'static str {
+    match (change.before != 404, change.view.status) {
         (false, _) => "is new",
         (true, 404) => "goes",
         (true, _) => "changes",
     }
 }
 
-fn tell_page<W: Write>(
-    alloc: Global,
-    out: &mut W,
-    change: &Change,
-    taken: &[String],
-) -> Result<(), EditorFault> {
-    let (path, what) = (change.view.path.as_str(), change_name(change, taken));
+fn tell_page<W: Write>(alloc: Global, out: &mut W, change: &Change) -> Result<(), EditorFault> {
+    let (path, what) = (change.view.path.as_str(), change_name(change));
     say_made(out, format!(in alloc; "page {path} {what}"))
 }
 
 /// The pages that change, for programs.
-fn pages_value(alloc: Global, changes: &[Change], taken: &[String]) -> Result<Value, AllocError> {
+fn pages_value(alloc: Global, changes: &[Change]) -> Result<Value, AllocError> {
     let mut pages = Vec::new(alloc);
     for change in changes {
         let path = change.view.path.as_str();
-        let page = json!(in alloc; {"path": path, "page": change_name(change, taken)})?;
+        let page = json!(in alloc; {"path": path, "page": change_name(change)})?;
         pages.push(page)?;
     }
     Ok(Value::Array(pages))
@@ -88,17 +83,30 @@ fn tell_planned<W: Write>(
     outcome: &mut Outcome,
     sent: &[Sent],
     changes: &[Change],
-    taken: &[String],
 ) -> Result<(), EditorFault> {
     outcome.put(alloc, "commands", heads_value(alloc, sent)?)?;
-    outcome.put(alloc, "changes", pages_value(alloc, changes, taken)?)?;
+    outcome.put(alloc, "changes", pages_value(alloc, changes)?)?;
     for sent in sent {
         say(out, head_of(sent.text.as_str()))?;
     }
     for change in changes {
-        tell_page(alloc, out, change, taken)?;
+        tell_page(alloc, out, change)?;
     }
     Ok(())
+}
+
+/// The pages that change if a ledger with nothing on its way becomes these texts.
+fn changes_by(
+    alloc: Global,
+    ledger: &Ledger,
+    wanted: &[&str],
+    taken: Option<&Taken>,
+) -> Result<Vec<Change>, AllocError> {
+    let changes = changes_since(alloc, ledger, wanted)?;
+    match taken {
+        Some(taken) => with_taken(alloc, changes, wanted, &taken.paths, &taken.left),
+        None => Ok(changes),
+    }
 }
 
 /// Tells what would be put and removed of a ledger with nothing on its way, and which pages change. Whether
@@ -109,29 +117,33 @@ fn tell_next<W: Write>(
     outcome: &mut Outcome,
     ledger: &mut Ledger,
     wanted: &[&str],
-    taken: &[String],
+    taken: Option<&Taken>,
 ) -> Result<bool, EditorFault> {
-    let changes = changes_since(alloc, ledger, wanted)?;
-    let stage = advance(alloc, ledger, wanted)?;
+    let changes = changes_by(alloc, ledger, wanted, taken)?;
+    let texts = with_staying(alloc, wanted, taken)?;
+    if let Some(taken) = taken {
+        plan_again(alloc, ledger, &texts, &taken.again)?;
+    }
+    let stage = advance(alloc, ledger, &texts)?;
     match stage {
         Stage::Done => {
-            tell_planned(alloc, out, outcome, &[], &[], &[])?;
+            tell_planned(alloc, out, outcome, &[], &[])?;
             say(out, "nothing would change")?;
         }
-        Stage::Sends => tell_planned(alloc, out, outcome, ledger.sent(), &changes, taken)?,
+        Stage::Sends => tell_planned(alloc, out, outcome, ledger.sent(), &changes)?,
     }
     Ok(stage == Stage::Sends)
 }
 
-/// Tells what would be put and removed, and which pages change, if those paths are taken over. Nothing is
-/// asked, sent or saved. Whether anything would be sent is the answer.
+/// Tells what would be put and removed, and which pages change, by what is taken over. Nothing is asked, sent
+/// or saved. Whether anything would be sent is the answer.
 pub(crate) fn tell_plan<W: Write>(
     alloc: Global,
     out: &mut W,
     outcome: &mut Outcome,
     ledger: &mut Ledger,
     wanted: &[&str],
-    taken: &[String],
+    taken: Option<&Taken>,
 ) -> Result<bool, EditorFault> {
     let waits = !ledger.is_idle();
     outcome.put(alloc, "on_their_way", heads_value(alloc, ledger.sent())?)?;

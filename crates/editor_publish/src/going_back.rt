@@ -1,7 +1,7 @@
 //! A release of a folder's history becomes the next one.
-use crate::publishing::Publishing;
 use editor_common::{EditorFault, Outcome, say_made};
 use editor_files::{Read, read_folder, texts_of};
+use editor_options::PublishWord;
 use serde_json::Value;
 use std::alloc::{AllocError, Global};
 use std::collections::BTreeSet;
@@ -38,7 +38,7 @@ pub(crate) fn tell_disk<R: Files + AllocGlobal + Clone + Drop, E: Write>(
     rt: &R,
     err: &mut E,
     outcome: &mut Outcome,
-    how: &Publishing<'_>,
+    how: &PublishWord<'_>,
     release: u64,
     texts: &[&str],
 ) -> Result<(), EditorFault> {

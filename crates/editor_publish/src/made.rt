@@ -1,6 +1,7 @@
 //! The release that a publication made.
-ghost use Rattle.std.specs.Prelude.{◌≡◌};
+ghost use Rattle.std.specs.Prelude.{◌≡◌, ◌-◌, ◌==◌};
 ghost use Rattle.editor_publish.specs.Endings.{commands_of};
+ghost use Rattle.editor_publish.specs.Numbers.{is_exact};
 
 use editor_common::{EditorFault, say_made};
 use editor_ledger::Ledger;
@@ -8,13 +9,35 @@ use serde_json::{Value, json};
 use std::alloc::{AllocError, Global};
 use std::io::Write;
 
-/// A release that was made: its number, or one above it where others released as well, and how many commands
-/// it shows that none showed before.
+/// A release that was made: its number, or one above it where others released as well; whether an interrupted
+/// run had begun it; and how many commands it shows that none showed before.
 #[derive(Clone, Copy)]
 pub(crate) struct Made {
     pub release: u64,
     pub exact: bool,
+    pub begun: bool,
     pub commands: u64,
+}
+
+/// Whether one release came after that one.
+fn is_next(before: u64, release: u64) -> bool
+    ensures { result ≡ (release - before == 1) }
+{
+    release.saturating_sub(before) == 1
+}
+
+/// Whether the newest release, once one has its receipt, is that one. The newest before it was sent is that,
+/// if the node told it, and this was the folder's own last one. If an interrupted run had begun it, it may
+/// have been made before.
+pub(crate) fn is_exact(begun: bool, before: Option<u64>, shown: u64, release: u64) -> bool
+    ensures { result ≡ is_exact begun before shown release }
+{
+    is_next(shown, release)
+        || !begun
+            && match before {
+                Some(before) => is_next(before, release),
+                None => false,
+            }
 }
 
 /// The ticket of the release that is on its way, if it is one.
@@ -56,12 +79,16 @@ pub(crate) fn tell_made<W: Write>(
     let Made {
         release,
         exact,
+        begun,
         commands,
     } = made;
-    let whose = if exact {
-        ""
-    } else {
-        " or one shortly before it (another editor released as well)"
+    let whose = match (exact, begun) {
+        (true, false) => "",
+        (true, true) => " (an interrupted run had begun it)",
+        (false, false) => " or one shortly before it (another editor released as well)",
+        (false, true) => {
+            " or one before it (an interrupted run had begun it, and another editor released as well)"
+        }
     };
     let noun = if commands == 1 { "command" } else { "commands" };
     say_made(
@@ -76,6 +103,7 @@ pub(crate) fn made_value(alloc: Global, url: &str, made: Made) -> Result<Value, 
         release,
         exact,
         commands,
+        ..
     } = made;
     let address = format!(in alloc; "{url}/@{release}/")?;
     json!(in alloc; {"number": release, "exact": exact, "commands": commands, "url": &address})

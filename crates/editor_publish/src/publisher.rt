@@ -1,13 +1,17 @@
 //! A publication under way.
-use crate::comparing::{Change, changes_of, changes_since, tell_differences};
+use crate::comparing::{Change, changes_of, changes_since, tell_differences, with_taken};
 use crate::dry_run::{Found, tell_plan};
-use crate::made::{Made, commands_of, made_value, release_ticket, tell_made, unnumbered, untold};
-use crate::publishing::Publishing;
-use crate::taking_over::{Taken, refusal_of, taken_over, tell_left_over, tell_taken_over};
+use crate::made::{
+    Made, commands_of, is_exact, made_value, release_ticket, tell_made, unnumbered, untold,
+};
+use crate::taking_over::{
+    Taken, plan_again, refusal_of, taken_over, tell_left_over, tell_taken_over, with_staying,
+};
 use editor_common::{EditorFault, Outcome, say, texts_value};
 use editor_files::save;
 use editor_group::{Group, Look, confirm, deliver, look_at, newest};
 use editor_ledger::{Ledger, Message, Released};
+use editor_options::PublishWord;
 use editor_plan::{Stage, advance, last_shown, unlogged};
 use serde_json::Value;
 use std::alloc::AllocError;
@@ -25,7 +29,7 @@ pub(crate) struct Publisher<'a, R, E> {
     pub outcome: &'a mut Outcome,
     pub group: &'a mut Group,
     pub ledger: &'a mut Ledger,
-    pub how: &'a Publishing<'a>,
+    pub how: &'a PublishWord<'a>,
 }
 
 /// Seconds since 1970.
@@ -72,11 +76,9 @@ impl<R: Files + Net<Stream = TcpStream> + Clock + AllocGlobal, E: Write> Publish
         }
     }
 
-    /// The number that a release made now has if nobody else makes one, where the node that is spoken to
-    /// tells it.
-    fn next(&self) -> Result<Option<u64>, EditorFault> {
-        let newest = newest(self.rt, self.rt.alloc(), self.group.node()?)?;
-        Ok(newest.map(|release| release.saturating_add(1)))
+    /// The newest release, where the node that is spoken to tells it.
+    fn newest_told(&self) -> Result<Option<u64>, EditorFault> {
+        Ok(newest(self.rt, self.rt.alloc(), self.group.node()?)?)
     }
 
     /// Keeps in the log that a release was made. It is not saved.
@@ -115,7 +117,8 @@ impl<R: Files + Net<Stream = TcpStream> + Clock + AllocGlobal, E: Write> Publish
         let release = self.newest()?;
         let made = Made {
             release,
-            exact: release == last_shown(self.ledger).saturating_add(1),
+            exact: is_exact(true, None, last_shown(self.ledger), release),
+            begun: false,
             commands,
         };
         self.note(made)?;
@@ -129,12 +132,13 @@ impl<R: Files + Net<Stream = TcpStream> + Clock + AllocGlobal, E: Write> Publish
     /// tells it in the log.
     fn release(&mut self, ticket: u64, fresh: bool) -> Result<Made, EditorFault> {
         let commands = commands_of(self.ledger, ticket);
-        let next = self.next()?;
+        let (before, shown) = (self.newest_told()?, last_shown(self.ledger));
         self.send()?;
         let release = self.number_made()?;
         let made = Made {
             release,
-            exact: fresh && next == Some(release),
+            exact: is_exact(!fresh, before, shown, release),
+            begun: !fresh,
             commands,
         };
         self.note(made)?;
@@ -154,30 +158,38 @@ impl<R: Files + Net<Stream = TcpStream> + Clock + AllocGlobal, E: Write> Publish
         }
     }
 
-    /// Brings a folder of these texts into the group, and releases it: the release that was made last, or
-    /// nothing where nothing has changed.
-    fn bring(&mut self, wanted: &[&str]) -> Result<Option<Made>, EditorFault> {
-        let mut made = None;
-        let mut fresh = self.ledger.is_idle();
+    /// Sends what an interrupted run left on its way, so that a plan can be made: the release, if it was one.
+    fn send_left(&mut self) -> Result<Option<Made>, EditorFault> {
+        if self.ledger.is_idle() {
+            return Ok(None);
+        }
+        self.send_planned(false)
+    }
+
+    /// Brings a folder of these texts into the group, some of them again, and releases it: the release that
+    /// was made last, or nothing where nothing has changed.
+    fn bring(&mut self, texts: &[&str], again: &[String]) -> Result<Option<Made>, EditorFault> {
+        let mut made = self.send_left()?;
+        plan_again(self.rt.alloc(), self.ledger, texts, again)?;
         for _ in 0..u64::MAX {
-            match advance(self.rt.alloc(), self.ledger, wanted)? {
+            match advance(self.rt.alloc(), self.ledger, texts)? {
                 Stage::Done => break,
-                Stage::Sends => made = self.send_planned(fresh)?.or(made),
+                Stage::Sends => made = self.send_planned(true)?.or(made),
             }
-            fresh = true;
         }
         Ok(made)
     }
 
-    /// The pages that a publication of these texts changes: all of them where one was interrupted, since what
-    /// it changed is not known any more.
-    fn changes(&self, wanted: &[&str]) -> Result<Vec<Change>, AllocError> {
+    /// The pages that a publication of these texts changes, by what it takes over: all of them where one was
+    /// interrupted, since what it changed is not known any more.
+    fn changes(&self, wanted: &[&str], taken: &Taken) -> Result<Vec<Change>, AllocError> {
         let alloc = self.rt.alloc();
-        if self.ledger.is_idle() && !self.ledger.has_unshown() {
-            changes_since(alloc, self.ledger, wanted)
+        let changes = if self.ledger.is_idle() && !self.ledger.has_unshown() {
+            changes_since(alloc, self.ledger, wanted)?
         } else {
-            changes_of(alloc, &[], wanted)
-        }
+            changes_of(alloc, &[], wanted)?
+        };
+        with_taken(alloc, changes, wanted, &taken.paths, &taken.left)
     }
 
     /// Tells where a release does not show what changed. Whether it does not is the answer.
@@ -225,10 +237,12 @@ impl<R: Files + Net<Stream = TcpStream> + Clock + AllocGlobal, E: Write> Publish
         &mut self,
         out: &mut W,
         wanted: &[&str],
+        taken: &Taken,
         found: Option<Made>,
     ) -> Result<bool, EditorFault> {
-        let changes = self.changes(wanted)?;
-        match self.bring(wanted)? {
+        let changes = self.changes(wanted, taken)?;
+        let texts = with_staying(self.rt.alloc(), wanted, Some(taken))?;
+        match self.bring(&texts, &taken.again)? {
             Some(made) => {
                 self.keep_made("release", made)?;
                 tell_made(self.rt.alloc(), out, self.group.node()?.url.as_str(), made)?;
@@ -241,19 +255,29 @@ impl<R: Files + Net<Stream = TcpStream> + Clock + AllocGlobal, E: Write> Publish
         }
     }
 
-    /// Refuses to take over what others have put, unless that is asked for. What it is is told.
-    fn ask_to_take_over(&mut self, wanted: &[&str]) -> Result<(), EditorFault> {
-        let alloc = self.rt.alloc();
+    /// What a publication takes over, and what it leaves to others. It is kept in the outcome.
+    fn taken(&mut self, wanted: &[&str]) -> Result<Taken, EditorFault> {
+        let (alloc, take_over) = (self.rt.alloc(), self.how.take_over);
         let node = self.group.node()?;
-        let taken = taken_over(self.rt, alloc, node, self.ledger, wanted)?;
+        let taken = taken_over(self.rt, alloc, node, self.ledger, wanted, take_over)?;
         self.outcome
             .put(alloc, "takes_over", texts_value(alloc, &taken.paths)?)?;
-        tell_taken_over(alloc, self.err, &taken.paths)?;
-        self.refuse(&taken)
+        self.outcome
+            .put(alloc, "leaves", texts_value(alloc, &taken.left)?)?;
+        Ok(taken)
     }
 
-    /// Refuses what a publication takes over, unless that is asked for. What an interrupted run left is reported
-    /// then.
+    /// Refuses to take over what others have put, unless that is asked for. What it is is told, and is the
+    /// answer.
+    fn ask_to_take_over(&mut self, wanted: &[&str]) -> Result<Taken, EditorFault> {
+        let taken = self.taken(wanted)?;
+        tell_taken_over(self.rt.alloc(), self.err, &taken)?;
+        self.refuse(&taken)?;
+        Ok(taken)
+    }
+
+    /// Refuses what a publication takes over, unless that is asked for. What an interrupted run left is
+    /// reported then.
     fn refuse(&mut self, taken: &Taken) -> Result<(), EditorFault> {
         let alloc = self.rt.alloc();
         if self.how.take_over {
@@ -261,7 +285,7 @@ impl<R: Files + Net<Stream = TcpStream> + Clock + AllocGlobal, E: Write> Publish
         }
         match refusal_of(alloc, taken)? {
             Some(why) => {
-                tell_left_over(alloc, self.err, self.how.folder, taken.left)?;
+                tell_left_over(alloc, self.err, self.how.folder, taken.left_over)?;
                 Err(why)
             }
             None => Ok(()),
@@ -277,8 +301,8 @@ impl<R: Files + Net<Stream = TcpStream> + Clock + AllocGlobal, E: Write> Publish
         let (folder, patience) = (self.how.folder, self.how.patience);
         confirm(self.rt, self.err, folder, self.group, self.ledger, patience)?;
         let found = self.note_unlogged(out)?;
-        self.ask_to_take_over(wanted)?;
-        self.publish_texts(out, wanted, found)
+        let taken = self.ask_to_take_over(wanted)?;
+        self.publish_texts(out, wanted, &taken, found)
     }
 
     /// Tells which paths a publication of these texts would take over, as far as the node that is spoken to
@@ -288,13 +312,9 @@ impl<R: Files + Net<Stream = TcpStream> + Clock + AllocGlobal, E: Write> Publish
         out: &mut W,
         wanted: &[&str],
     ) -> Result<Option<Taken>, EditorFault> {
-        let alloc = self.rt.alloc();
-        let node = self.group.node()?;
-        match taken_over(self.rt, alloc, node, self.ledger, wanted) {
+        match self.taken(wanted) {
             Ok(taken) => {
-                self.outcome
-                    .put(alloc, "takes_over", texts_value(alloc, &taken.paths)?)?;
-                tell_taken_over(alloc, out, &taken.paths)?;
+                tell_taken_over(self.rt.alloc(), out, &taken)?;
                 Ok(Some(taken))
             }
             Err(EditorFault::Stop(why)) => {
@@ -305,15 +325,15 @@ impl<R: Files + Net<Stream = TcpStream> + Clock + AllocGlobal, E: Write> Publish
         }
     }
 
-    /// Tells what a publication would take over, if the group confirms its ledger: that is the answer. Why the
-    /// publication would be refused is kept.
+    /// Tells what a publication would take over, if the group confirms its ledger: that is the answer. Why
+    /// the publication would be refused is kept.
     fn look<W: Write>(
         &mut self,
         out: &mut W,
         wanted: &[&str],
         refused: &mut Option<EditorFault>,
     ) -> Result<Option<Taken>, EditorFault> {
-        if self.how.urls.is_empty() {
+        if self.group.nodes().is_empty() {
             return Ok(None);
         }
         match look_at(self.rt, self.err, self.how.folder, self.group, self.ledger)? {
@@ -336,12 +356,8 @@ impl<R: Files + Net<Stream = TcpStream> + Clock + AllocGlobal, E: Write> Publish
     ) -> Result<Found, EditorFault> {
         let mut refused = None;
         let taken = self.look(out, wanted, &mut refused)?;
-        let paths = match &taken {
-            Some(taken) => taken.paths.as_slice(),
-            None => &[],
-        };
         let (alloc, ledger) = (self.rt.alloc(), &mut *self.ledger);
-        let sends = tell_plan(alloc, out, self.outcome, ledger, wanted, paths)?;
+        let sends = tell_plan(alloc, out, self.outcome, ledger, wanted, taken.as_ref())?;
         if let Some(why) = refused {
             return Err(why);
         }

@@ -12,6 +12,7 @@ use editor_files::{
 };
 use editor_group::Group;
 use editor_ledger::Ledger;
+use editor_options::PublishWord;
 use serde_json::Value;
 use std::alloc::{AllocError, Global};
 use std::fs::File;
@@ -19,29 +20,6 @@ use std::io::Write;
 use std::net::{Net, TcpStream};
 use std::random::RandomSource;
 use std::rt::{Clock, Files};
-
-/// How a folder is published.
-#[derive(Clone, Copy)]
-pub struct Publishing<'a> {
-    pub folder: &'a str,
-    pub urls: &'a [&'a str],
-    /// The editor's number; without one it is that of the file `published`, or picked at random.
-    pub editor: Option<u32>,
-    /// How many seconds may pass without progress.
-    pub patience: u64,
-    /// Nothing is sent: what would be is told.
-    pub dry_run: bool,
-    /// The status says whether a dry run found something to send.
-    pub exit_code: bool,
-    /// What others have put is taken over.
-    pub take_over: bool,
-    /// The release of this folder that becomes the next one; without one the folder does.
-    pub release: Option<u64>,
-    /// What is said of the release that is made.
-    pub message: Option<&'a str>,
-    /// Files that are no part of a site are passed over.
-    pub ignore: bool,
-}
 
 /// Why a ledger is not that of the editor who is named.
 fn belongs(alloc: Global, folder: &str, editor: u32) -> Result<EditorFault, AllocError> {
@@ -88,7 +66,7 @@ fn publish_wanted<
     err: &'a mut E,
     outcome: &'a mut Outcome,
     group: &'a mut Group,
-    how: &'a Publishing<'a>,
+    how: &'a PublishWord<'a>,
     mut ledger: Ledger,
     wanted: &[&str],
 ) -> Result<Ending, EditorFault>
@@ -130,7 +108,7 @@ fn publish_clean<
     err: &mut E,
     outcome: &mut Outcome,
     group: &mut Group,
-    how: &Publishing<'_>,
+    how: &PublishWord<'_>,
     clean: &Clean,
 ) -> Result<Ending, EditorFault>
     ensures { IfOk result (MayEnd how.now.dry_run how.now.exit_code) }
@@ -162,7 +140,7 @@ fn publish_folder<
     err: &mut E,
     outcome: &mut Outcome,
     group: &mut Group,
-    how: &Publishing<'_>,
+    how: &PublishWord<'_>,
 ) -> Result<Ending, EditorFault>
     ensures { IfOk result (MayEnd how.now.dry_run how.now.exit_code) }
 {
@@ -177,7 +155,7 @@ fn publish_folder<
 /// The ledger of a folder that has published.
 fn ledger_there<R: Files + RandomSource + AllocGlobal>(
     rt: &R,
-    how: &Publishing<'_>,
+    how: &PublishWord<'_>,
 ) -> Result<Ledger, EditorFault> {
     let ledger = ledger_of(rt, how.folder, how.editor)?;
     if ledger.next() == 1 {
@@ -200,7 +178,7 @@ fn publish_release<
     err: &mut E,
     outcome: &mut Outcome,
     group: &mut Group,
-    how: &Publishing<'_>,
+    how: &PublishWord<'_>,
     release: u64,
 ) -> Result<Ending, EditorFault>
     ensures { IfOk result (MayEnd how.now.dry_run how.now.exit_code) }
@@ -223,7 +201,7 @@ fn publish_next<
     err: &mut E,
     outcome: &mut Outcome,
     group: &mut Group,
-    how: &Publishing<'_>,
+    how: &PublishWord<'_>,
 ) -> Result<Ending, EditorFault>
     ensures { IfOk result (MayEnd how.now.dry_run how.now.exit_code) }
 {
@@ -236,7 +214,7 @@ fn publish_next<
 /// The folder, held while it is published; a dry run holds nothing.
 fn held<R: Files<File = File> + AllocGlobal>(
     rt: &R,
-    how: &Publishing<'_>,
+    how: &PublishWord<'_>,
 ) -> Result<Option<File>, EditorFault> {
     if how.dry_run {
         return Ok(None);
@@ -244,8 +222,9 @@ fn held<R: Files<File = File> + AllocGlobal>(
     Ok(Some(hold(rt, how.folder)?))
 }
 
-/// Publishes a folder, and gives the exit status: 1 where it has a fault, or is not shown then. What it came
-/// to is kept in the outcome.
+/// Publishes a folder to the nodes of these URLs, which have the logins that the word names a file of, and
+/// gives the exit status: 1 where it has a fault, or is not shown then. What it came to is kept in the
+/// outcome.
 pub fn publish<
     R: Files<File = File>
         + Net<Stream = TcpStream>
@@ -261,18 +240,19 @@ pub fn publish<
     out: &mut W,
     err: &mut E,
     outcome: &mut Outcome,
-    how: Publishing<'_>,
+    how: &PublishWord<'_>,
+    urls: &[&str],
 ) -> Result<u8, EditorFault>
-    ensures nobody { how.entry.urls.now ≡ [] → how.entry.dry_run ≡ false → IsErr result }
-    ensures status { IfOk result (IsStatus how.entry.dry_run how.entry.exit_code) }
+    ensures nobody { urls.now ≡ [] → how.now.dry_run ≡ false → IsErr result }
+    ensures status { IfOk result (IsStatus how.now.dry_run how.now.exit_code) }
 {
     outcome.put(rt.alloc(), "dry_run", Value::from(how.dry_run))?;
-    if how.urls.is_empty() && !how.dry_run {
+    if urls.is_empty() && !how.dry_run {
         return Err(EditorFault::NoNodes);
     }
-    let mut group = Group::of(rt.alloc(), how.urls)?;
-    let held = held(rt, &how)?;
-    let ending = publish_next(rt, out, err, outcome, &mut group, &how)?;
+    let mut group = Group::of(rt.alloc(), urls)?;
+    let held = held(rt, how)?;
+    let ending = publish_next(rt, out, err, outcome, &mut group, how)?;
     drop(held);
     Ok(ending.status())
 }

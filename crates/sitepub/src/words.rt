@@ -8,7 +8,7 @@ use editor_options::{
     CheckWord, FileWord, Manner, PublishWord, StatusWord, ToldWord, Word, word_in,
 };
 use editor_preview::preview;
-use editor_publish::{Publishing, publish};
+use editor_publish::publish;
 use editor_words::{Checking, begin, check, export, frame, restore, tell_log};
 use serde_json::Value;
 use std::alloc::{AllocError, Global};
@@ -60,55 +60,6 @@ fn published_by<R: Files + AllocGlobal>(
     }
 }
 
-/// Tells what nodes say of themselves whose logins a file may have.
-fn status_by<R: Files + Net<Stream = TcpStream> + Clock + AllocGlobal, W: Write, E: Write>(
-    rt: &R,
-    out: &mut W,
-    err: &mut E,
-    outcome: &mut Outcome,
-    word: &StatusWord<'_>,
-) -> Result<u8, EditorFault> {
-    let urls = with_logins(rt, &word.urls, word.logins)?;
-    let urls = lent(rt.alloc(), &urls)?;
-    let published = published_by(rt, word.folder)?;
-    tell_status(rt, out, err, outcome, &urls, published)
-}
-
-/// Publishes a folder to nodes whose logins a file may have.
-fn publish_by<
-    R: Files<File = File>
-        + Net<Stream = TcpStream>
-        + Clock
-        + RandomSource
-        + AllocGlobal
-        + Clone
-        + Drop,
-    W: Write,
-    E: Write,
->(
-    rt: &R,
-    out: &mut W,
-    err: &mut E,
-    outcome: &mut Outcome,
-    word: &PublishWord<'_>,
-) -> Result<u8, EditorFault> {
-    let urls = with_logins(rt, &word.urls, word.logins)?;
-    let lent = lent(rt.alloc(), &urls)?;
-    let publishing = Publishing {
-        folder: word.folder,
-        urls: &lent,
-        editor: word.editor,
-        patience: word.patience,
-        dry_run: word.dry_run,
-        exit_code: word.exit_code,
-        take_over: word.take_over,
-        release: word.release,
-        message: word.message,
-        ignore: word.ignore,
-    };
-    publish(rt, out, err, outcome, publishing)
-}
-
 /// How a folder is checked.
 fn checking<'a>(word: &CheckWord<'a>) -> Checking<'a> {
     Checking {
@@ -118,139 +69,10 @@ fn checking<'a>(word: &CheckWord<'a>) -> Checking<'a> {
     }
 }
 
-/// Does what a word says that is told how to speak. What it came to is kept in the outcome.
-fn tell_word<
-    R: Files<File = File>
-        + Net<Stream = TcpStream>
-        + Clock
-        + RandomSource
-        + AllocGlobal
-        + Clone
-        + Drop,
-    W: Write,
-    E: Write,
->(
-    rt: &R,
-    out: &mut W,
-    err: &mut E,
-    outcome: &mut Outcome,
-    word: &ToldWord<'_>,
-) -> Result<u8, EditorFault> {
-    match word {
-        ToldWord::Check(word) => check(rt, out, err, outcome, checking(word)),
-        ToldWord::Publish(word) => publish_by(rt, out, err, outcome, word),
-        ToldWord::Log { folder } => tell_log(rt, out, err, outcome, folder),
-        ToldWord::Status(word) => status_by(rt, out, err, outcome, word),
-    }
-}
-
-/// Does what a word says that reads and writes files.
-fn write_files<R: Files + AllocGlobal + Clone + Drop, W: Write, E: Write>(
-    rt: &R,
-    out: &mut W,
-    err: &mut E,
-    word: FileWord<'_>,
-) -> Result<u8, EditorFault> {
-    match word {
-        FileWord::New { folder } => begin(rt, out, err, folder),
-        FileWord::Import { pages, folder } => import(rt, out, err, pages, folder),
-        FileWord::Export {
-            folder,
-            out: to,
-            ignore,
-        } => export(rt, err, folder, to, ignore),
-        FileWord::Frame {
-            folder,
-            editor,
-            ignore,
-        } => frame(rt, out, err, folder, editor, ignore),
-        FileWord::Restore {
-            folder,
-            release,
-            out: to,
-        } => restore(rt, err, folder, release, to),
-    }
-}
-
-/// Does what a word says. What it came to is kept in the outcome.
-fn done<
-    R: Files<File = File>
-        + Net<Listener = TcpListener, Stream = TcpStream>
-        + Clock
-        + RandomSource
-        + AllocGlobal
-        + Clone
-        + Drop,
-    W: Write,
-    E: Write,
->(
-    rt: &R,
-    out: &mut W,
-    err: &mut E,
-    outcome: &mut Outcome,
-    word: &Word<'_>,
-) -> Result<u8, EditorFault> {
-    match word {
-        Word::Files(word) => write_files(rt, out, err, *word),
-        Word::Preview {
-            folder,
-            http,
-            ignore,
-        } => preview(rt, out, err, folder, http, *ignore),
-        Word::Told(word, _) => tell_word(rt, out, err, outcome, word),
-    }
-}
-
 /// Keeps why a word came to no end.
 fn keep_fault(alloc: Global, outcome: &mut Outcome, why: &EditorFault) -> Result<(), AllocError> {
     let why = format!(in alloc; "{why}")?;
     outcome.put(alloc, "fault", Value::String(why))
-}
-
-/// Does what a word says, and gives the exit status. That it came to no end is told, and kept in the outcome.
-fn status_of<
-    R: Files<File = File>
-        + Net<Listener = TcpListener, Stream = TcpStream>
-        + Clock
-        + RandomSource
-        + AllocGlobal
-        + Clone
-        + Drop,
-    W: Write,
-    E: Write,
->(rt: &R, out: &mut W, err: &mut E, outcome: &mut Outcome, word: &Word<'_>) -> u8 {
-    match done(rt, out, err, outcome, word) {
-        Ok(status) => status,
-        Err(why) => {
-            let _ = keep_fault(rt.alloc(), outcome, &why);
-            tell(err, &why, 1)
-        }
-    }
-}
-
-/// Does what a word says. Where the status is not 0, what it tells on the other writer is written at its end,
-/// behind the table of `status`, which says why.
-fn quiet_status_of<
-    R: Files<File = File>
-        + Net<Listener = TcpListener, Stream = TcpStream>
-        + Clock
-        + RandomSource
-        + AllocGlobal
-        + Clone
-        + Drop,
-    E: Write,
->(rt: &R, err: &mut E, outcome: &mut Outcome, word: &Word<'_>) -> u8 {
-    let mut table: Vec<u8> = Vec::new(rt.alloc());
-    let mut told: Vec<u8> = Vec::new(rt.alloc());
-    let status = match word {
-        Word::Told(ToldWord::Status(_), _) => status_of(rt, &mut table, &mut told, outcome, word),
-        _ => status_of(rt, &mut io::sink(), &mut told, outcome, word),
-    };
-    if status != 0 {
-        let _ = err.write_all(&table);
-        let _ = err.write_all(&told);
-    }
-    status
 }
 
 /// Writes what a word came to as one JSON object, its exit status among it.
@@ -262,36 +84,6 @@ fn write_outcome<W: Write>(
 ) -> Result<(), EditorFault> {
     outcome.put(alloc, "status", Value::from(status))?;
     say_made(out, outcome.spelled(alloc))
-}
-
-/// Does what a word says in the manner that it was told, and gives the exit status.
-fn end_of<
-    R: Files<File = File>
-        + Net<Listener = TcpListener, Stream = TcpStream>
-        + Clock
-        + RandomSource
-        + AllocGlobal
-        + Clone
-        + Drop,
-    W: Write,
-    E: Write,
->(rt: &R, out: &mut W, err: &mut E, word: &Word<'_>) -> u8 {
-    let Manner { quiet, json } = word.manner();
-    let mut outcome = Outcome::new(rt.alloc());
-    let status = if quiet {
-        quiet_status_of(rt, err, &mut outcome, word)
-    } else if json {
-        status_of(rt, &mut io::sink(), err, &mut outcome, word)
-    } else {
-        status_of(rt, out, err, &mut outcome, word)
-    };
-    if !json {
-        return status;
-    }
-    match write_outcome(rt.alloc(), out, outcome, status) {
-        Ok(()) => status,
-        Err(why) => tell(err, &why, 1),
-    }
 }
 
 /// The words of the command line.
@@ -322,9 +114,17 @@ fn asks_version(words: &[String]) -> bool {
     matches!(words, [_, word] if word.as_str() == "--version")
 }
 
-/// Does what words say, the program's name first.
-fn by_words<
+/// What the words are done with: the system, standard output, and the other writer.
+#[derive(Drop)]
+struct Run<'a, R, W, E> {
+    rt: &'a R,
+    out: &'a mut W,
+    err: &'a mut E,
+}
+
+impl<
     R: Files<File = File>
+        + Env
         + Net<Listener = TcpListener, Stream = TcpStream>
         + Clock
         + RandomSource
@@ -333,14 +133,154 @@ fn by_words<
         + Drop,
     W: Write,
     E: Write,
->(rt: &R, out: &mut W, err: &mut E, words: &[String]) -> u8 {
-    if asks_version(words) {
-        return tell(out, &VERSION, 0);
+> Run<'_, R, W, E> {
+    /// Tells what nodes say of themselves whose logins a file may have.
+    fn status_by(
+        &mut self,
+        outcome: &mut Outcome,
+        word: &StatusWord<'_>,
+    ) -> Result<u8, EditorFault> {
+        let urls = with_logins(self.rt, &word.urls, word.logins)?;
+        let urls = lent(self.rt.alloc(), &urls)?;
+        let published = published_by(self.rt, word.folder)?;
+        tell_status(self.rt, self.out, self.err, outcome, &urls, published)
     }
-    match word_in(rt.alloc(), words) {
-        Ok(Some(word)) => end_of(rt, out, err, &word),
-        Ok(None) => 2,
-        Err(refused) => tell_refusal(out, err, &refused),
+
+    /// Publishes a folder to nodes whose logins a file may have.
+    fn publish_by(
+        &mut self,
+        outcome: &mut Outcome,
+        word: &PublishWord<'_>,
+    ) -> Result<u8, EditorFault> {
+        let urls = with_logins(self.rt, &word.urls, word.logins)?;
+        let urls = lent(self.rt.alloc(), &urls)?;
+        publish(self.rt, self.out, self.err, outcome, word, &urls)
+    }
+
+    /// Does what a word says that is told how to speak. What it came to is kept in the outcome.
+    fn tell_word(&mut self, outcome: &mut Outcome, word: &ToldWord<'_>) -> Result<u8, EditorFault> {
+        match word {
+            ToldWord::Check(word) => check(self.rt, self.out, self.err, outcome, checking(word)),
+            ToldWord::Publish(word) => self.publish_by(outcome, word),
+            ToldWord::Log { folder } => tell_log(self.rt, self.out, self.err, outcome, folder),
+            ToldWord::Status(word) => self.status_by(outcome, word),
+        }
+    }
+
+    /// Does what a word says that reads and writes files.
+    fn write_files(&mut self, word: FileWord<'_>) -> Result<u8, EditorFault> {
+        match word {
+            FileWord::New { folder } => begin(self.rt, self.out, self.err, folder),
+            FileWord::Import { pages, folder } => {
+                import(self.rt, self.out, self.err, pages, folder)
+            }
+            FileWord::Export {
+                folder,
+                out,
+                ignore,
+            } => export(self.rt, self.err, folder, out, ignore),
+            FileWord::Frame {
+                folder,
+                editor,
+                ignore,
+            } => frame(self.rt, self.out, self.err, folder, editor, ignore),
+            FileWord::Restore {
+                folder,
+                release,
+                out,
+            } => restore(self.rt, self.err, folder, release, out),
+        }
+    }
+
+    /// Does what a word says. What it came to is kept in the outcome.
+    fn done(&mut self, outcome: &mut Outcome, word: &Word<'_>) -> Result<u8, EditorFault> {
+        match word {
+            Word::Files(word) => self.write_files(*word),
+            Word::Preview {
+                folder,
+                http,
+                ignore,
+            } => preview(self.rt, self.out, self.err, folder, http, *ignore),
+            Word::Told(word, _) => self.tell_word(outcome, word),
+        }
+    }
+
+    /// Does what a word says, and gives the exit status. That it came to no end is told, and kept in the
+    /// outcome.
+    fn status_of(&mut self, outcome: &mut Outcome, word: &Word<'_>) -> u8 {
+        match self.done(outcome, word) {
+            Ok(status) => status,
+            Err(why) => {
+                let _ = keep_fault(self.rt.alloc(), outcome, &why);
+                tell(self.err, &why, 1)
+            }
+        }
+    }
+
+    /// Does what a word says. Where the status is not 0, what it tells on the other writer is written at its
+    /// end, behind the table of `status`, which says why.
+    fn quiet_status_of(&mut self, outcome: &mut Outcome, word: &Word<'_>) -> u8 {
+        let mut table: Vec<u8> = Vec::new(self.rt.alloc());
+        let mut told: Vec<u8> = Vec::new(self.rt.alloc());
+        let rt = self.rt;
+        let status = match word {
+            Word::Told(ToldWord::Status(_), _) => {
+                Run {
+                    rt,
+                    out: &mut table,
+                    err: &mut told,
+                }
+                .status_of(outcome, word)
+            }
+            _ => Run {
+                rt,
+                out: &mut io::sink(),
+                err: &mut told,
+            }
+            .status_of(outcome, word),
+        };
+        if status != 0 {
+            let _ = self.err.write_all(&table);
+            let _ = self.err.write_all(&told);
+        }
+        status
+    }
+
+    /// Does what a word says in the manner that it was told, and gives the exit status.
+    fn end_of(&mut self, word: &Word<'_>) -> u8 {
+        let Manner { quiet, json } = word.manner();
+        let mut outcome = Outcome::new(self.rt.alloc());
+        let status = if quiet {
+            self.quiet_status_of(&mut outcome, word)
+        } else if json {
+            Run {
+                rt: self.rt,
+                out: &mut io::sink(),
+                err: self.err,
+            }
+            .status_of(&mut outcome, word)
+        } else {
+            self.status_of(&mut outcome, word)
+        };
+        if !json {
+            return status;
+        }
+        match write_outcome(self.rt.alloc(), self.out, outcome, status) {
+            Ok(()) => status,
+            Err(why) => tell(self.err, &why, 1),
+        }
+    }
+
+    /// Does what words say, the program's name first.
+    fn by_words(&mut self, words: &[String]) -> u8 {
+        if asks_version(words) {
+            return tell(self.out, &VERSION, 0);
+        }
+        match word_in(self.rt.alloc(), words) {
+            Ok(Some(word)) => self.end_of(&word),
+            Ok(None) => 2,
+            Err(refused) => tell_refusal(self.out, self.err, &refused),
+        }
     }
 }
 
@@ -359,7 +299,7 @@ pub fn sitepub<
     E: Write,
 >(rt: &R, out: &mut W, err: &mut E) -> u8 {
     match words_of(rt) {
-        Ok(words) => by_words(rt, out, err, &words),
+        Ok(words) => Run { rt, out, err }.by_words(&words),
         Err(why) => tell_no_words(err, &why),
     }
 }

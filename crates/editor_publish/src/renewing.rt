@@ -1,0 +1,167 @@
+//! The texts by which pages of a folder come about.
+use std::alloc::{AllocError, Global};
+use std::collections::BTreeSet;
+
+/// What a text puts, by its first line.
+#[derive(Clone, Copy)]
+struct Put<'a> {
+    kind: &'a str,
+    name: &'a str,
+    /// The names of the template and of the data, if it puts a route.
+    template: Option<&'a str>,
+    page_data: Option<&'a str>,
+}
+
+fn put_in(text: &str) -> Option<Put<'_>> {
+    let mut words = text.lines().next()?.split(' ');
+    if words.next()? != "put" {
+        return None;
+    }
+    Some(Put {
+        kind: words.next()?,
+        name: words.next()?,
+        template: words.next(),
+        page_data: words.next(),
+    })
+}
+
+/// What pages at some paths are made of: the paths, and the templates and data that their routes name.
+#[derive(Drop)]
+struct Parts<'a> {
+    paths: BTreeSet<&'a str>,
+    templates: BTreeSet<&'a str>,
+    page_data: BTreeSet<&'a str>,
+}
+
+impl<'a> Parts<'a> {
+    fn at(alloc: Global, paths: &'a [String]) -> Result<Parts<'a>, AllocError> {
+        let mut parts = Parts {
+            paths: BTreeSet::new(alloc),
+            templates: BTreeSet::new(alloc),
+            page_data: BTreeSet::new(alloc),
+        };
+        for path in paths {
+            let _ = parts.paths.insert(path.as_str())?;
+        }
+        Ok(parts)
+    }
+
+    /// Notes what a route names, if it is at one of the paths.
+    fn note(&mut self, put: Put<'a>) -> Result<(), AllocError> {
+        if put.kind != "route" || !self.paths.contains(put.name) {
+            return Ok(());
+        }
+        if let Some(name) = put.template {
+            let _ = self.templates.insert(name)?;
+        }
+        if let Some(name) = put.page_data {
+            let _ = self.page_data.insert(name)?;
+        }
+        Ok(())
+    }
+
+    fn has(&self, put: Put<'_>) -> bool {
+        match put.kind {
+            "route" | "redirect" => self.paths.contains(put.name),
+            "template" => self.templates.contains(put.name),
+            "data" => self.page_data.contains(put.name),
+            _ => false,
+        }
+    }
+}
+
+/// Which texts put the pages at these paths, and the templates and data that these name.
+fn put_at(alloc: Global, texts: &[&str], paths: &[String]) -> Result<Vec<bool>, AllocError> {
+    let mut parts = Parts::at(alloc, paths)?;
+    for text in texts {
+        if let Some(put) = put_in(text) {
+            parts.note(put)?;
+        }
+    }
+    let mut are = Vec::with_capacity(alloc, texts.len())?;
+    for text in texts {
+        are.push(put_in(text).is_some_and(|put| parts.has(put)))?;
+    }
+    Ok(are)
+}
+
+/// Whether the name of a partial stands in one of those texts.
+fn is_called(texts: &[&str], are: &[bool], name: &str) -> bool {
+    texts
+        .iter()
+        .zip(are)
+        .any(|(text, is)| *is && text.contains(name))
+}
+
+/// Adds the partials whose names stand in one of those texts. Whether some were added is the answer.
+fn add_partials(texts: &[&str], are: &mut [bool]) -> bool {
+    let mut added = false;
+    for (i, text) in texts.iter().enumerate() {
+        if are.get(i).copied().unwrap_or(true) {
+            continue;
+        }
+        let Some(put) = put_in(text) else {
+            continue;
+        };
+        if put.kind == "partial" && is_called(texts, are, put.name) {
+            if let Some(is) = are.get_mut(i) {
+                *is = true;
+                added = true;
+            }
+        }
+    }
+    added
+}
+
+/// Those of the texts by which the pages at these paths come about: their routes and redirects, the templates
+/// and data that the routes name, and the partials whose names stand in one of these, as a call has it.
+pub(crate) fn texts_of_pages(
+    alloc: Global,
+    texts: &[&str],
+    paths: &[String],
+) -> Result<Vec<String>, AllocError> {
+    let mut found = Vec::new(alloc);
+    if paths.is_empty() {
+        return Ok(found);
+    }
+    let mut are = put_at(alloc, texts, paths)?;
+    for _ in 0..texts.len() {
+        if !add_partials(texts, are.as_mut_slice()) {
+            break;
+        }
+    }
+    for (text, is) in texts.iter().zip(&are) {
+        if *is {
+            found.push(String::from_str(alloc, text)?)?;
+        }
+    }
+    Ok(found)
+}
+
+/// What a text is about: its kind and its name.
+fn subject_of(text: &str) -> Option<(&str, &str)> {
+    let mut words = text.lines().next()?.split(' ');
+    let _ = words.next()?;
+    Some((words.next()?, words.next()?))
+}
+
+/// Those of the texts that are about nothing that one of the others is about.
+pub(crate) fn apart_from(
+    alloc: Global,
+    texts: Vec<String>,
+    others: &[&str],
+) -> Result<Vec<String>, AllocError> {
+    let mut subjects = BTreeSet::new(alloc);
+    for text in others {
+        if let Some(subject) = subject_of(text) {
+            let _ = subjects.insert(subject)?;
+        }
+    }
+    let mut apart = Vec::new(alloc);
+    for text in texts {
+        if subject_of(text.as_str()).is_some_and(|subject| !subjects.contains(&subject)) {
+            apart.push(text)?;
+        }
+    }
+    Ok(apart)
+}
