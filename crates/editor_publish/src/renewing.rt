@@ -138,11 +138,25 @@ pub(crate) fn texts_of_pages(
     Ok(found)
 }
 
-/// What a text is about: its kind and its name.
-fn subject_of(text: &str) -> Option<(&str, &str)> {
-    let mut words = text.lines().next()?.split(' ');
-    let _ = words.next()?;
-    Some((words.next()?, words.next()?))
+/// What a text is about: its kind and its name, parted by a blank.
+fn subject_of(alloc: Global, text: &str) -> Result<Option<String>, AllocError> {
+    let mut words = text.lines().next().unwrap_or("").split(' ');
+    let _ = words.next();
+    match (words.next(), words.next()) {
+        (Some(kind), Some(name)) => Ok(Some(format!(in alloc; "{kind} {name}")?)),
+        _ => Ok(None),
+    }
+}
+
+/// What texts are about, each once.
+fn subjects_of(alloc: Global, texts: &[&str]) -> Result<BTreeSet<String>, AllocError> {
+    let mut subjects = BTreeSet::new(alloc);
+    for text in texts {
+        if let Some(subject) = subject_of(alloc, text)? {
+            let _ = subjects.insert(subject)?;
+        }
+    }
+    Ok(subjects)
 }
 
 /// Those of the texts that are about nothing that one of the others is about.
@@ -151,16 +165,13 @@ pub(crate) fn apart_from(
     texts: Vec<String>,
     others: &[&str],
 ) -> Result<Vec<String>, AllocError> {
-    let mut subjects = BTreeSet::new(alloc);
-    for text in others {
-        if let Some(subject) = subject_of(text) {
-            let _ = subjects.insert(subject)?;
-        }
-    }
+    let subjects = subjects_of(alloc, others)?;
     let mut apart = Vec::new(alloc);
     for text in texts {
-        if subject_of(text.as_str()).is_some_and(|subject| !subjects.contains(&subject)) {
-            apart.push(text)?;
+        if let Some(subject) = subject_of(alloc, text.as_str())? {
+            if !subjects.contains(subject.as_str()) {
+                apart.push(text)?;
+            }
         }
     }
     Ok(apart)

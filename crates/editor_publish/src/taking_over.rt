@@ -218,7 +218,7 @@ fn others_of(
 }
 
 /// Compares paths with a node's release.
-fn compared<N: Net<Stream = TcpStream>>(
+fn compare<N: Net<Stream = TcpStream>>(
     net: &N,
     alloc: Global,
     node: &Address,
@@ -263,7 +263,7 @@ fn parted(
 
 /// Compares the paths that a publication changes; and all of the folder's, if some of them are taken over or
 /// `take_over` asks for that.
-fn compared_all<N: Net<Stream = TcpStream>>(
+fn compare_all<N: Net<Stream = TcpStream>>(
     net: &N,
     alloc: Global,
     node: &Address,
@@ -276,13 +276,13 @@ fn compared_all<N: Net<Stream = TcpStream>>(
     let paths = paths_compared(alloc, ledger, &states, wanted)?;
     let all = with_all(alloc, &paths, wanted)?;
     if take_over {
-        return compared(net, alloc, node, release, &states, wanted, &all);
+        return compare(net, alloc, node, release, &states, wanted, &all);
     }
-    let first = compared(net, alloc, node, release, &states, wanted, &paths)?;
+    let first = compare(net, alloc, node, release, &states, wanted, &paths)?;
     if all.len() == paths.len() || !is_about_some(alloc, &first.taken, wanted)? {
         return Ok(first);
     }
-    compared(net, alloc, node, release, &states, wanted, &all)
+    compare(net, alloc, node, release, &states, wanted, &all)
 }
 
 /// Whether a wanted text is about one of the paths.
@@ -316,7 +316,7 @@ pub(crate) fn taken_over<N: Net<Stream = TcpStream>>(
     let Some(release) = newest(net, alloc, node)? else {
         return Err(untold(alloc, node.url.as_str())?);
     };
-    let Compared { taken, others } = compared_all(
+    let Compared { taken, others } = compare_all(
         net, alloc, node, release, ledger, wanted, take_over,
     )?;
     let (paths, left) = if take_over {

@@ -87,12 +87,28 @@ fn no_patience(rt: HostRuntime) {
     );
 }
 
-/// How often nodes were asked before, and how many milliseconds they have to answer.
-const ANSWERS: &[(u64, u64)] = &[(0, 2_000), (1, 10_000), (2, 10_000), (u64::MAX, 10_000)];
+/// How often nodes were asked before, how many milliseconds passed since, how many seconds may pass, and how many
+/// milliseconds the nodes have to answer.
+const ANSWERS: &[(u64, u64, u64, u64)] = &[
+    (0, 0, 60, 2_000),
+    (0, 0, 0, 2_000),
+    (1, 2_500, 60, 10_000),
+    (2, 13_000, 60, 10_000),
+    // No longer than the seconds that are left, and a second at least.
+    (1, 2_500, 3, 1_000),
+    (1, 2_500, 9, 7_000),
+    (5, 52_999, 60, 8_000),
+    (6, 61_000, 60, 1_000),
+    (u64::MAX, u64::MAX, u64::MAX, 10_000),
+];
 
 #[test]
 fn answers_of_nodes_asked_at_once(rt: HostRuntime) {
-    for &(times, within) in ANSWERS {
-        ensure(&rt, answers_within(times) == within, times);
+    for &(times, passed, patience, within) in ANSWERS {
+        ensure(
+            &rt,
+            answers_within(times, passed, patience) == within,
+            passed,
+        );
     }
 }

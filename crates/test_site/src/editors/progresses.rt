@@ -32,3 +32,26 @@ fn progresses(rt: HostRuntime) {
     }
     same(&rt, progress.all(), 9);
 }
+
+/// How many of forty commands have their receipts, one after the other, and whether the ledger is saved then: after
+/// more than two, which are a sixteenth.
+const KEPT: &[(usize, bool)] = &[
+    (0, false),
+    (2, false),
+    (3, true),
+    (3, false),
+    (5, false),
+    (6, true),
+    (40, true),
+    (40, false),
+];
+
+#[test]
+fn ledgers_saved_meanwhile(rt: HostRuntime) {
+    let mut progress = Progress::new(40);
+    for &(has, kept) in KEPT {
+        ensure(&rt, progress.keeps(has) == kept, has);
+    }
+    let mut few = Progress::new(15);
+    ensure(&rt, few.keeps(1), 1);
+}
