@@ -287,6 +287,7 @@ impl<
 /// Does what the command line says, and gives the exit status: 1 where something was refused or came to no
 /// end, 2 for a line that is none. Either is told on the other writer.
 pub fn sitepub<
+    'a,
     R: Files<File = File>
         + Env
         + Net<Listener = TcpListener, Stream = TcpStream>
@@ -297,7 +298,7 @@ pub fn sitepub<
         + Drop,
     W: Write,
     E: Write,
->(rt: &R, out: &mut W, err: &mut E) -> u8 {
+>(rt: &'a R, out: &'a mut W, err: &'a mut E) -> u8 {
     match words_of(rt) {
         Ok(words) => Run { rt, out, err }.by_words(&words),
         Err(why) => tell_no_words(err, &why),
