@@ -1,5 +1,6 @@
 -- Datagrams that wait for a step, and letters that a step handed out.
-use Rattle.std.specs.Prelude.{ℕ, ◌+◌, ◌-◌, ◌^◌, ◌<◌, min, vec_len, length, nat_eq, Bool, true, if◌then◌else◌, List, [], ◌∷◌}
+use Rattle.std.specs.Prelude.{ℕ, ◌+◌, ◌-◌, ◌^◌, ◌<◌, min, vec_len, length, nat_eq, Bool, true, if◌then◌else◌}
+use Rattle.std.specs.Prelude.{List, [], ◌∷◌}
 use Rattle.node.specs.declared.to.To.{To}
 use Rattle.node.specs.declared.to.To.TheVariants.{One, All}
 use Rattle.site_drive.specs.Posting.{bytes_of, letters_of}

@@ -25,7 +25,8 @@ Makes o (Above floor) = NamesFloor (length o.peers.items) o.id (told_by o) floor
 
 -- the reaches give no floor
 abbrev pub HasNoFloor : ServeOptions → ServerFault → Type 0
-HasNoFloor o why = (fault : FloorFault) × (why ≡ server_fault.BadFloor fault) × RefusesWords (length o.peers.items) o.id (told_by o) fault
+HasNoFloor o why = (fault : FloorFault) × (why ≡ server_fault.BadFloor fault)
+    × RefusesWords (length o.peers.items) o.id (told_by o) fault
 
 abbrev pub MakesNone : ServeOptions → ServerFault → Type 0
 MakesNone o why = HasNoFloor o why ⊎ (why ≡ server_fault.OutOfMemory)

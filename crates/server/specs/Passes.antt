@@ -1,5 +1,6 @@
 -- What a server does with its node: passes, each a batch of what came, and then requests of clients.
-use Rattle.std.specs.Prelude.{◌≡◌, ◌≢◌, ◌⊎◌, ℕ, zero, suc, ◌+◌, ◌*◌, ◌<◌, ◌≤◌, List, [], ◌∷◌, ◌++◌, length, take, ⊤, Bool, IsTrue, ◌↔◌}
+use Rattle.std.specs.Prelude.{◌≡◌, ◌≢◌, ◌⊎◌, ℕ, zero, suc, ◌+◌, ◌*◌, ◌<◌, ◌≤◌, List, [], ◌∷◌, ◌++◌, length}
+use Rattle.std.specs.Prelude.{take, ⊤, Bool, IsTrue, ◌↔◌}
 use Rattle.site_ids.specs.Lists.{In}
 use Rattle.site_ids.specs.declared.Ticket.{Ticket}
 use Rattle.wire.specs.declared.message.Message.{Message}
@@ -30,7 +31,9 @@ use Rattle.server_faults.specs.declared.server_fault.ServerFault.TheVariants as 
 
 -- the answer to a request at node p of n: nothing is done, or one submission is made, of a ticket and a text
 abbrev pub MayTake : ℕ → ℕ → Node → Node → Type 0
-MayTake n p s next = (next ≡ s) ⊎ ((ticket : Ticket) × (text : List ℕ) × (done : Outcome) × ComesTo n p s (value_of ticket text) done next)
+MayTake n p s next = (next ≡ s)
+    ⊎ ((ticket : Ticket) × (text : List ℕ) × (done : Outcome)
+    × ComesTo n p s (value_of ticket text) done next)
 
 -- the answers to some requests, one after another
 abbrev pub MayTakeMany : ℕ → ℕ → ℕ → Node → Node → Type 0
@@ -41,7 +44,8 @@ MayTakeMany n p (suc k) s next = (mid : Node) × MayTakeMany n p k s mid × MayT
 
 -- A step: these datagrams are one batch, and after it these values are published. These letters are what the
 -- batch handed out, each message once. Then requests are answered, 64 at most
-pub record TakesStep (n p : ℕ) (came : List (List ℕ)) (letters : List (To × List ℕ)) (fed : List (List ℕ)) (s next : Node) : Type 0 where
+pub record TakesStep (n p : ℕ) (came : List (List ℕ)) (letters : List (To × List ℕ)) (fed : List (List ℕ))
+    (s next : Node) : Type 0 where
   pub last : LastCall
   pub malformed : ℕ
   pub out : List (To × Message)
@@ -56,16 +60,20 @@ pub record TakesStep (n p : ℕ) (came : List (List ℕ)) (letters : List (To ×
 -- it handed out was spelled, or as a request was answered
 abbrev pub BreaksStep : ℕ → ℕ → List (List ℕ) → ServerFault → Node → Node → Type 0
 BreaksStep n p came why s next =
-    ((last : LastCall) × (fault : NodeFault) × (why ≡ of_node fault) × GivesUpBatch last n p came fault s next)
-    ⊎ ((why ≡ server_fault.OutOfMemory) × ((letters : List (To × List ℕ)) × (fed : List (List ℕ)) × TakesStep n p came letters fed s next))
+    ((last : LastCall) × (fault : NodeFault) × (why ≡ of_node fault)
+    × GivesUpBatch last n p came fault s next)
+    ⊎ ((why ≡ server_fault.OutOfMemory)
+    × ((letters : List (To × List ℕ)) × (fed : List (List ℕ)) × TakesStep n p came letters fed s next))
 
 -- a pass: one step over what has come
 abbrev pub TakesPass : ℕ → ℕ → List (List ℕ) → Node → Node → Type 0
-TakesPass n p fed s next = (came : List (List ℕ)) × (letters : List (To × List ℕ)) × TakesStep n p came letters fed s next
+TakesPass n p fed s next = (came : List (List ℕ)) × (letters : List (To × List ℕ))
+    × TakesStep n p came letters fed s next
 
 -- a pass that ends its server: in its step, or because an allocation failed before it, for what came
 abbrev pub BreaksPass : ℕ → ℕ → ServerFault → Node → Node → Type 0
-BreaksPass n p why s next = ((came : List (List ℕ)) × BreaksStep n p came why s next) ⊎ ((why ≡ server_fault.OutOfMemory) × (next ≡ s))
+BreaksPass n p why s next = ((came : List (List ℕ)) × BreaksStep n p came why s next)
+    ⊎ ((why ≡ server_fault.OutOfMemory) × (next ≡ s))
 
 -- ---- many
 
@@ -81,14 +89,16 @@ last_of s (x ∷ xs) = last_of x xs
 
 -- `count` passes, one after another, each of which leads to one of these nodes. After the last one, all that
 -- is known without a gap is published
-pub record TakesPasses (n p count : ℕ) (fed : List (List ℕ)) (through : List Node) (s next : Node) : Type 0 where
+pub record TakesPasses (n p count : ℕ) (fed : List (List ℕ)) (through : List Node)
+    (s next : Node) : Type 0 where
   pub as_many : length through ≡ count
   pub each : AreSteps (λ x y. (then : List (List ℕ)) × TakesPass n p then x y) s through
   pub last : next ≡ last_of s through
   pub fed_is : count ≢ 0 → IsKnownPrefix next fed
 
 -- some whole passes, fewer than `count`, and then one that ends the server
-pub record BreaksPasses (n p count : ℕ) (why : ServerFault) (through : List Node) (s next : Node) : Type 0 where
+pub record BreaksPasses (n p count : ℕ) (why : ServerFault) (through : List Node)
+    (s next : Node) : Type 0 where
   pub whole : ℕ
   pub fewer : whole < count
   pub mid : Node
@@ -118,24 +128,31 @@ IsOneOf p n nodes file = (x : Node) × In nodes x × IsFound p n x.entries x.in_
 
 -- what the disk keeps of the first node it keeps of the last one. A crash at any moment leaves what one of
 -- them, or one of those between, has on record
-abbrev pub StaysAlong : {D : Type 0} → (D → DiskState → Type 0) → Running D → Running D → Node → List Node → Node → Type 0
+abbrev pub StaysAlong : {D : Type 0} → (D → DiskState → Type 0) → Running D → Running D → Node → List Node
+    → Node → Type 0
 StaysAlong stands_for old new s through next = (d : DiskState) → IsOnDisk stands_for old s d
-    → (e : DiskState) × IsOnDisk stands_for new next e × LeavesOnly d e (IsOneOf old.me old.cluster (s ∷ through))
+    → (e : DiskState) × IsOnDisk stands_for new next e
+    × LeavesOnly d e (IsOneOf old.me old.cluster (s ∷ through))
 
 -- From each node that the old value stands for this leads, through these nodes, to one that the new value stands for
-pub record Led {D : Type 0} (stands_for : D → DiskState → Type 0) (old new : Running D) (How : List Node → Node → Node → Type 0) : Type 0 where
+pub record Led {D : Type 0} (stands_for : D → DiskState → Type 0) (old new : Running D)
+    (How : List Node → Node → Node → Type 0) : Type 0 where
   pub leads : (s : Node) → IsNodeOf old s
-      → (through : List Node) × (next : Node) × How through s next × IsNodeOf new next × StaysAlong stands_for old new s through next
+      → (through : List Node) × (next : Node) × How through s next × IsNodeOf new next
+      × StaysAlong stands_for old new s through next
 
 -- a batch over these datagrams, with that last call, is whole. This many of them spelled no message, and
 -- these are the letters of what it handed out
-abbrev pub IsBatchOf : {D : Type 0} → (D → DiskState → Type 0) → LastCall → List (List ℕ) → ℕ → List (To × List ℕ) → Running D → Running D → Type 0
+abbrev pub IsBatchOf : {D : Type 0} → (D → DiskState → Type 0) → LastCall → List (List ℕ) → ℕ
+    → List (To × List ℕ) → Running D → Running D → Type 0
 IsBatchOf stands_for last came malformed letters old new = (out : List (To × Message))
     × LeadsSealed stands_for old new (λ s next. TakesBatch last old.cluster old.me came malformed out new.releases s next × (letters ≡ spelled_of out))
 
 -- the same with some last call
-abbrev pub IsBatched : {D : Type 0} → (D → DiskState → Type 0) → List (List ℕ) → ℕ → List (To × List ℕ) → Running D → Running D → Type 0
-IsBatched stands_for came malformed letters old new = (last : LastCall) × IsBatchOf stands_for last came malformed letters old new
+abbrev pub IsBatched : {D : Type 0} → (D → DiskState → Type 0) → List (List ℕ) → ℕ → List (To × List ℕ)
+    → Running D → Running D → Type 0
+IsBatched stands_for came malformed letters old new = (last : LastCall)
+    × IsBatchOf stands_for last came malformed letters old new
 
 -- in a group of n, these are the nodes that sent the messages among these datagrams
 abbrev pub AreSenders : ℕ → List (List ℕ) → List Bool → Type 0
@@ -144,7 +161,8 @@ AreSenders n came heard =
 
 -- The pace of a step: it called what was due. If the mail had room, all that had come was taken in. Then it
 -- heard what the batch delivered
-pub record Paces {D : Type 0} (node : Running D) (mail : Mail) (now : ℕ) (last : LastCall) (old new : Pace) : Type 0 where
+pub record Paces {D : Type 0} (node : Running D) (mail : Mail) (now : ℕ) (last : LastCall)
+    (old new : Pace) : Type 0 where
   pub drained : Bool
   pub drained_is : IsTrue drained ↔ HasRoom mail
   pub mid : Pace
@@ -155,7 +173,8 @@ pub record Paces {D : Type 0} (node : Running D) (mail : Mail) (now : ℕ) (last
 
 -- What may be sent though a step ended its server like this: nothing; or, if an allocation failed, the first
 -- letters of its batch, which is sealed
-abbrev pub MaySend : {D : Type 0} → (D → DiskState → Type 0) → List (List ℕ) → List (To × List ℕ) → ServerFault → Running D → Type 0
+abbrev pub MaySend : {D : Type 0} → (D → DiskState → Type 0) → List (List ℕ) → List (To × List ℕ)
+    → ServerFault → Running D → Type 0
 MaySend {D} stands_for came letters why old = (letters ≡ [])
     ⊎ ((why ≡ server_fault.OutOfMemory)
     × (mid : Running D) × (last : LastCall) × (malformed : ℕ) × (out : List (To × Message))
@@ -164,15 +183,18 @@ MaySend {D} stands_for came letters why old = (letters ≡ [])
     × ((k : ℕ) × (letters ≡ take k (spelled_of out)))))
 
 -- the device failed in a step
-abbrev pub LosesStep : {D : Type 0} → (D → DiskState → Type 0) → List (List ℕ) → Running D → Running D → ServerFault → Type 0
-LosesStep stands_for came old new why = (why ≡ server_fault.Stopped) × ((last : LastCall) × LosesBatch stands_for last came old new)
+abbrev pub LosesStep : {D : Type 0} → (D → DiskState → Type 0) → List (List ℕ) → Running D → Running D
+    → ServerFault → Type 0
+LosesStep stands_for came old new why = (why ≡ server_fault.Stopped)
+    × ((last : LastCall) × LosesBatch stands_for last came old new)
 
 -- the device failed in a pass
 abbrev pub LosesPass : {D : Type 0} → (D → DiskState → Type 0) → Running D → Running D → ServerFault → Type 0
 LosesPass stands_for old new why = (came : List (List ℕ)) × LosesStep stands_for came old new why
 
 -- some whole passes, fewer than `count`, and then one in which the device failed
-pub record LosesPasses {D : Type 0} (stands_for : D → DiskState → Type 0) (old new : Running D) (count : ℕ) (why : ServerFault) : Type 0 where
+pub record LosesPasses {D : Type 0} (stands_for : D → DiskState → Type 0) (old new : Running D) (count : ℕ)
+    (why : ServerFault) : Type 0 where
   pub whole : ℕ
   pub fewer : whole < count
   pub mid : Running D

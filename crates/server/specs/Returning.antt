@@ -22,7 +22,8 @@ IsBack returning now node = (s : Node) → IsNodeOf node s
     → (values : List Value) × IsKnownPrefix s values × ¬ (Returns returning now (length values))
 
 -- Each client has its turn. While the server is coming back, no client has, and nothing is done
-abbrev pub AnswersOrLeaves : {D T : Type 0} → Returning → ℕ → Times → Served D → Served D → List (Seat T) → List (Seat T) → Type 0
+abbrev pub AnswersOrLeaves : {D T : Type 0} → Returning → ℕ → Times → Served D → Served D → List (Seat T)
+    → List (Seat T) → Type 0
 AnswersOrLeaves returning now times mid after old new =
     (IsBack returning now mid.node × AreAnswered offered times now mid after old new)
     ⊎ (ComesBack returning now mid.node × (after ≡ mid) × (new ≡ old))

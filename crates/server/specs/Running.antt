@@ -23,7 +23,8 @@ printed p = ready_line p ++ done_line
 -- how it ends before it is ready: the options are not valid; or they are, and the record or the sockets are
 -- not opened, or the reaches give no floor; or an allocation failed
 abbrev pub EndsBefore : ServeOptions → ServerFault → Type 0
-EndsBefore o why = ((why ≡ server_fault.BadAddress) × ¬ IsPlaced o) ⊎ (IsPlaced o × (EndsOpening why ⊎ EndsBinding why ⊎ HasNoFloor o why)) ⊎ (why ≡ server_fault.OutOfMemory)
+EndsBefore o why = ((why ≡ server_fault.BadAddress) × ¬ IsPlaced o)
+    ⊎ (IsPlaced o × (EndsOpening why ⊎ EndsBinding why ⊎ HasNoFloor o why)) ⊎ (why ≡ server_fault.OutOfMemory)
 
 -- it was ready, and did all its laps. On standard error there are lines of notes, if they were asked for, and
 -- nothing else
@@ -64,7 +65,8 @@ pub record Broken (out err : End) (o : ServeOptions) (status : ℕ) : Type 0 whe
   pub status_is : status ≡ 1
 
 abbrev pub HasServed : End → End → ServeOptions → ℕ → Type 0
-HasServed out err o status = Finished out err o status ⊎ Refused out err o status ⊎ Halted out err o status ⊎ Broken out err o status
+HasServed out err o status = Finished out err o status ⊎ Refused out err o status ⊎ Halted out err o status
+    ⊎ Broken out err o status
 
 -- ---- the parts of a run
 
@@ -77,7 +79,8 @@ HaltsAt out err o why =
 
 -- the line `node P ready` could not be made, or not be written whole
 abbrev pub HaltsReady : End → ℕ → ServerFault → Type 0
-HaltsReady out p why = ((why ≡ server_fault.OutOfMemory) × IsSilent out) ⊎ ((why ≡ server_fault.Write) × IsBroken out (ready_line p))
+HaltsReady out p why = ((why ≡ server_fault.OutOfMemory) × IsSilent out)
+    ⊎ ((why ≡ server_fault.Write) × IsBroken out (ready_line p))
 
 abbrev pub ReadyEnds : {T : Type 0} → End → ℕ → Result T ServerFault → Type 0
 ReadyEnds out p (Ok _) = IsWritten out (ready_line p)

@@ -8,7 +8,8 @@ use Rattle.node.specs.Standing.{OpensAs}
 use Rattle.server.specs.Passes.{Led}
 
 -- node p of n, opened over some disk; it has published nothing
-pub record IsOpened {D : Type 0} (stands_for : D → DiskState → Type 0) (n p : ℕ) (node : Running D) : Type 0 where
+pub record IsOpened {D : Type 0} (stands_for : D → DiskState → Type 0) (n p : ℕ)
+    (node : Running D) : Type 0 where
   pub me : node.me ≡ p
   pub cluster : node.cluster ≡ n
   pub unfed : node.releases ≡ []
@@ -17,7 +18,8 @@ pub record IsOpened {D : Type 0} (stands_for : D → DiskState → Type 0) (n p 
   pub opens : OpensAs stands_for disk node entries
 
 -- node p of n is opened and then led in this way. It has published this in the end
-pub record IsRun {D : Type 0} (stands_for : D → DiskState → Type 0) (n p : ℕ) (How : List (List ℕ) → List Node → Node → Node → Type 0) : Type 0 where
+pub record IsRun {D : Type 0} (stands_for : D → DiskState → Type 0) (n p : ℕ)
+    (How : List (List ℕ) → List Node → Node → Node → Type 0) : Type 0 where
   pub opened : Running D
   pub ended : Running D
   pub is_opened : IsOpened stands_for n p opened

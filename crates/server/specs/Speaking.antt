@@ -1,5 +1,6 @@
 -- Which other nodes read packets. Times are milliseconds since the server began.
-use Rattle.std.specs.Prelude.{◌≡◌, ◌⊎◌, ℕ, ◌-◌, ◌<◌, List, ◌∷◌, ◌++◌, length, take, replicate, get_or, set, Bool, false, not, Some, None, []}
+use Rattle.std.specs.Prelude.{◌≡◌, ◌⊎◌, ℕ, ◌-◌, ◌<◌, List, ◌∷◌, ◌++◌, length, take, replicate, get_or, set}
+use Rattle.std.specs.Prelude.{Bool, false, not, Some, None, []}
 use Rattle.site_drive.specs.Posting.{letters_of}
 use Rattle.site_drive.specs.declared.letter.Letter.{Letter}
 use Rattle.wire.specs.Decoding.{Spells}
@@ -26,7 +27,8 @@ reads peers p now = not (passed (get_or peers.heard (p - 1) None) now peers.time
 
 -- what follows a packet's mark shows, in a group of n, that the sender of its first message reads packets
 abbrev pub HearsFrames : ℕ → List ℕ → ℕ → Peers → Peers → Type 0
-HearsFrames n frames now old new = (d rest : List ℕ) × (m : Message) × (frames ≡ framed d ++ rest) × Spells n d m × (new ≡ heard_of (sender_of m) now old)
+HearsFrames n frames now old new = (d rest : List ℕ) × (m : Message) × (frames ≡ framed d ++ rest)
+    × Spells n d m × (new ≡ heard_of (sender_of m) now old)
 
 -- a piece that came shows this if it is a packet. Nothing else shows that a node reads packets
 abbrev pub HearsPiece : ℕ → List ℕ → ℕ → Peers → Peers → Type 0

@@ -32,8 +32,10 @@ fn address(text: &str) -> Result<SocketAddr, ServerFault>
 
 /// Reads each of these addresses.
 fn all(alloc: Global, texts: &[&str]) -> Result<Vec<SocketAddr>, ServerFault>
-    ensures ok { IfOk result (λ found. (length found.items ≡ length texts.now) × AreAddresses texts.now (λ t. t.now)) }
-    ensures bad { IfErr result (λ why. ((why ≡ ServerFault.BadAddress) × ¬ AreAddresses texts.now (λ t. t.now)) ⊎ (why ≡ ServerFault.OutOfMemory)) }
+    ensures ok { IfOk result (λ found. (length found.items ≡ length texts.now)
+        × AreAddresses texts.now (λ t. t.now)) }
+    ensures bad { IfErr result (λ why. ((why ≡ ServerFault.BadAddress)
+        × ¬ AreAddresses texts.now (λ t. t.now)) ⊎ (why ≡ ServerFault.OutOfMemory)) }
 {
     let mut found = Vec::with_capacity(alloc, texts.len())?;
     for text in texts {
@@ -62,9 +64,12 @@ pub(crate) fn read_addresses(
     alloc: Global,
     options: &ServeOptions<'_>,
 ) -> Result<Addresses, ServerFault>
-    ensures ok { IfOk result (λ a. IsPlaced options.now × IsNode a.cluster a.me × (length a.peers.items ≡ a.cluster)) }
-    ensures named { IfOk result (λ a. (a.cluster ≡ length options.now.peers.items) × (a.me ≡ options.now.id)) }
-    ensures bad { IfErr result (λ why. ((why ≡ ServerFault.BadAddress) × ¬ IsPlaced options.now) ⊎ (why ≡ ServerFault.OutOfMemory)) }
+    ensures ok { IfOk result (λ a. IsPlaced options.now × IsNode a.cluster a.me
+        × (length a.peers.items ≡ a.cluster)) }
+    ensures named { IfOk result (λ a. (a.cluster ≡ length options.now.peers.items)
+        × (a.me ≡ options.now.id)) }
+    ensures bad { IfErr result (λ why. ((why ≡ ServerFault.BadAddress) × ¬ IsPlaced options.now)
+        ⊎ (why ≡ ServerFault.OutOfMemory)) }
 {
     let Some((cluster, me)) = placed(options.peers.len(), options.id) else {
         return Err(ServerFault::BadAddress);

@@ -187,7 +187,8 @@ pub fn sited<
     options: &ServeOptions<'_>,
 ) -> u8
     ensures said { HasServed (end_of W.contents out.old out.new) (end_of E.contents err.old err.new) options.now result }
-    ensures laps { result ≡ 0 → IsRun ⟦<FileDisk as Disk>⟧.stands_for (length options.now.peers.items) options.now.id (TakesPasses (length options.now.peers.items) options.now.id (passes_of options.now.id options.now.rounds)) }
+    ensures laps { result ≡ 0
+        → IsRun ⟦<FileDisk as Disk>⟧.stands_for (length options.now.peers.items) options.now.id (TakesPasses (length options.now.peers.items) options.now.id (passes_of options.now.id options.now.rounds)) }
 {
     let mut cause = Cause::none();
     match run(rt, alloc, out, err, options, &mut cause) {

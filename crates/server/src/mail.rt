@@ -1,6 +1,7 @@
 //! Datagrams between a node and what carries them, in memory.
 
-ghost use Rattle.std.specs.Prelude.{◌≡◌, ◌++◌, ◌∷◌, [], ◌↔◌, ◌⊎◌, ◌≤◌, ℕ, List, length, IsTrue, OnOk, OnErr, vec_len};
+ghost use Rattle.std.specs.Prelude.{◌≡◌, ◌++◌, ◌∷◌, [], ◌↔◌, ◌⊎◌, ◌≤◌, ℕ, List, length, IsTrue, OnOk, OnErr};
+ghost use Rattle.std.specs.Prelude.{vec_len};
 ghost use Rattle.site_drive.specs.Posting.{bytes_of, letters_of};
 ghost use Rattle.server_packets.specs.Packets.{Holds, framed_all};
 ghost use Rattle.server_packets.specs.declared.TheConstants.{MAX_PACKET};
@@ -127,8 +128,10 @@ impl Mail {
     /// fails, the first of them may wait. A node that sends a packet reads packets.
     pub fn take_in(&mut self, piece: &[u8], now: u64) -> Result<(), AllocError>
         ensures came { OnOk result ((ds : List (List ℕ)) × Holds piece.now ds
-            × (waiting_of self.new ≡ waiting_of self.old ++ ds) × (self.new.bytes ≡ counted self.old.bytes ds)) }
-        ensures refused { OnErr result ((done left : List (List ℕ)) × Holds piece.now (done ++ left) × (waiting_of self.new ≡ waiting_of self.old ++ done)) }
+            × (waiting_of self.new ≡ waiting_of self.old ++ ds)
+            × (self.new.bytes ≡ counted self.old.bytes ds)) }
+        ensures refused { OnErr result ((done left : List (List ℕ)) × Holds piece.now (done ++ left)
+            × (waiting_of self.new ≡ waiting_of self.old ++ done)) }
         ensures same { (self.new.letters ≡ self.old.letters) × (self.new.cluster ≡ self.old.cluster) }
         ensures peers { HearsPiece self.old.cluster piece.now now self.old.peers self.new.peers }
     {
@@ -144,7 +147,8 @@ impl Mail {
     /// The node that sent the first message of a packet reads packets. If an allocation fails, no node is
     /// noted.
     fn hear(&mut self, frames: &[u8], now: u64)
-        ensures hears { HearsFrames self.old.cluster frames.now now self.old.peers self.new.peers ⊎ (self.new.peers ≡ self.old.peers) }
+        ensures hears { HearsFrames self.old.cluster frames.now now self.old.peers self.new.peers
+            ⊎ (self.new.peers ≡ self.old.peers) }
         ensures same { self.new ≡ record self.old { peers = self.new.peers } }
     {
         let Some((first, _)) = first_frame(frames) else {
@@ -161,7 +165,9 @@ impl Mail {
         ensures came { OnOk result ((ds : List (List ℕ)) → frames.now ≡ framed_all ds
             → (waiting_of self.new ≡ waiting_of self.old ++ ds)
             × (self.new.bytes ≡ counted self.old.bytes ds)) }
-        ensures refused { OnErr result ((ds : List (List ℕ)) → frames.now ≡ framed_all ds → (done left : List (List ℕ)) × (ds ≡ done ++ left) × (waiting_of self.new ≡ waiting_of self.old ++ done)) }
+        ensures refused { OnErr result ((ds : List (List ℕ)) → frames.now ≡ framed_all ds
+            → (done left : List (List ℕ)) × (ds ≡ done ++ left)
+            × (waiting_of self.new ≡ waiting_of self.old ++ done)) }
         ensures same { self.new.letters ≡ self.old.letters }
         ensures peers { (self.new.peers ≡ self.old.peers) × (self.new.cluster ≡ self.old.cluster) }
     {

@@ -29,12 +29,15 @@ pub fn pack(
     alone: bool,
     packet: &mut Packet,
 ) -> Result<usize, AllocError>
-    ensures packed { IfOk result (λ n. (ds : List (List ℕ)) → Packs packet.old ds → Packs packet.new (own_of to (letters_of (take n letters.now)))) }
-    ensures single { IfOk result (λ n. (ds : List (List ℕ)) → Packs packet.old ds → alone ≡ true → length (own_of to (letters_of (take n letters.now))) ≤ 1) }
+    ensures packed { IfOk result (λ n. (ds : List (List ℕ)) → Packs packet.old ds
+        → Packs packet.new (own_of to (letters_of (take n letters.now)))) }
+    ensures single { IfOk result (λ n. (ds : List (List ℕ)) → Packs packet.old ds → alone ≡ true
+        → length (own_of to (letters_of (take n letters.now))) ≤ 1) }
     ensures full { IfOk result (λ n. (ds : List (List ℕ)) → Packs packet.old ds
         → IsFull to letters.now n alone) }
     ensures within { IfOk result (λ n. n ≤ length letters.now) }
-    ensures goes_on { IfOk result (λ n. (ds : List (List ℕ)) → Packs packet.old ds → n ≡ 0 → letters.now ≡ []) }
+    ensures goes_on { IfOk result (λ n. (ds : List (List ℕ)) → Packs packet.old ds → n ≡ 0
+        → letters.now ≡ []) }
 {
     packet.clear();
     for (n, letter) in letters.iter().enumerate() {

@@ -9,7 +9,8 @@ ghost use Rattle.site_drive.specs.Batches.{LeadsSealed};
 ghost use Rattle.site_drive.specs.Leading.{StaysWhose};
 ghost use Rattle.server_faults.specs.ServerFaults.{CountsNone, EndsLaps};
 ghost use Rattle.server.specs.Noted.{HasNoted};
-ghost use Rattle.server.specs.Passes.{Led, TakesPass, TakesPasses, BreaksPass, BreaksPasses, LosesPass, LosesPasses};
+ghost use Rattle.server.specs.Passes.{Led, TakesPass, TakesPasses, BreaksPass, BreaksPasses, LosesPass};
+ghost use Rattle.server.specs.Passes.{LosesPasses};
 
 use crate::saying::tell_notes;
 use crate::server::{Server, Stepped};

@@ -1,6 +1,7 @@
 //! A server without sockets and clock.
 
-ghost use Rattle.std.specs.Prelude.{◌≡◌, ◌⊎◌, ◌↔◌, ◌||◌, [], ℕ, IfOk, IfErr, IfSome, IsFalse, IsSome, OnOk, length, true, false};
+ghost use Rattle.std.specs.Prelude.{◌≡◌, ◌⊎◌, ◌↔◌, ◌||◌, [], ℕ, IfOk, IfErr, IfSome, IsFalse, IsSome, OnOk};
+ghost use Rattle.std.specs.Prelude.{length, true, false};
 ghost use Rattle.node.specs.Standing.{KeepsOthers, failures};
 ghost use Rattle.site_drive.specs.Batches.{TakesBatch, LeadsSealed};
 ghost use Rattle.site_drive.specs.Leading.{StaysWhose};
@@ -14,7 +15,8 @@ ghost use Rattle.server_times.specs.Timing.{rest_after};
 ghost use Rattle.server.specs.Returning.{AnswersOrLeaves, ComesBack, IsBack};
 ghost use Rattle.server.specs.Mailing.{waiting_of, posted_of, own_of, has_come};
 ghost use Rattle.server.specs.Speaking.{no_peers};
-ghost use Rattle.server.specs.Passes.{AreSenders, TakesStep, BreaksStep, LosesStep, IsBatchOf, MaySend, Paces};
+ghost use Rattle.server.specs.Passes.{AreSenders, TakesStep, BreaksStep, LosesStep, IsBatchOf, MaySend};
+ghost use Rattle.server.specs.Passes.{Paces};
 ghost use Rattle.server_clients.specs.Served.{offered};
 ghost use Rattle.server_clients.specs.declared.served.Served.{Served};
 
@@ -101,7 +103,8 @@ impl<D: Disk + Drop, S: Drop> Server<D, S> {
     /// Takes the batch of a step: all that waits, and the call that is due after it. What that hands out is
     /// posted.
     fn take_batch(&mut self, now: u64) -> Result<Batched, ServerFault>
-        ensures ok { IfOk result (λ batched. (last : LastCall) × IsBatchOf D.stands_for last (waiting_of self.old.mail) batched.malformed (posted_of self.new.mail) self.old.served.node self.new.served.node
+        ensures ok { IfOk result (λ batched. (last : LastCall)
+            × IsBatchOf D.stands_for last (waiting_of self.old.mail) batched.malformed (posted_of self.new.mail) self.old.served.node self.new.served.node
             × Paces self.old.served.node self.old.mail now last self.old.pace self.new.pace) }
         ensures heard { IfOk result (λ batched.
             AreSenders self.old.served.node.cluster (waiting_of self.old.mail) batched.heard) }
@@ -147,7 +150,8 @@ impl<D: Disk + Drop, S: Drop> Server<D, S> {
     /// batch, after which the node publishes. What the batch hands out is the mail's letters. Then requests
     /// are answered, except those that are left. While the server is coming back, all are left.
     pub fn step(&mut self, now: u64) -> Result<Stepped, ServerFault>
-        ensures clients { IfOk result (λ stepped. (mid : Served D) × (last : LastCall) × IsBatchOf D.stands_for last (waiting_of self.old.mail) stepped.malformed (posted_of self.new.mail) self.old.served.node mid.node
+        ensures clients { IfOk result (λ stepped. (mid : Served D) × (last : LastCall)
+            × IsBatchOf D.stands_for last (waiting_of self.old.mail) stepped.malformed (posted_of self.new.mail) self.old.served.node mid.node
             × Paces self.old.served.node self.old.mail now last self.old.pace self.new.pace
             × AnswersOrLeaves self.old.returning now self.old.seats.times mid self.new.served self.old.seats.seats.items self.new.seats.seats.items) }
         ensures heard { IfOk result (λ stepped.
@@ -200,7 +204,8 @@ impl<D: Disk + Drop, S: Drop> Server<D, S> {
     pub fn rest(&mut self, stepped: Stepped, moved: bool) -> Option<u64>
         ensures rests { IsSome result ↔ Rests (resting_of self.old.pace
             (has_come stepped.came (waiting_of self.old.mail)) (moved || stepped.answered)) }
-        ensures long { IfSome result (λ micros. micros ≡ rest_after self.old.pace.times self.old.pace.empty) }
+        ensures long { IfSome result (λ micros.
+            micros ≡ rest_after self.old.pace.times self.old.pace.empty self.old.pace.tells) }
         ensures counts { self.new.pace ≡ record self.old.pace {
           empty = empty_after (resting_of self.old.pace
               (has_come stepped.came (waiting_of self.old.mail)) (moved || stepped.answered));

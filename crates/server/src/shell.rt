@@ -243,6 +243,9 @@ impl Shell {
     /// Rests for this many microseconds. A long rest ends when a datagram comes. A datagram for which an
     /// allocation fails is lost.
     pub(crate) fn rest<C: Clock>(&mut self, clock: &C, micros: u64, mail: &mut Mail) {
+        if micros == 0 {
+            return;
+        }
         let length = Duration::from_micros(micros);
         if micros < LONG || self.may_wait(length).is_err() {
             thread::sleep(clock, length);

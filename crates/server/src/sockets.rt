@@ -41,7 +41,8 @@ fn open<R: Net<Listener = TcpListener, Stream = TcpStream>>(
     addresses: &mut Addresses,
     cause: &mut Cause,
 ) -> io::Result<(UdpSocket, TcpListener)>
-    requires { IsNode addresses.old.cluster addresses.old.me × (length addresses.old.peers.items ≡ addresses.old.cluster) }
+    requires { IsNode addresses.old.cluster addresses.old.me
+        × (length addresses.old.peers.items ≡ addresses.old.cluster) }
 {
     let own = addresses.me.number() as usize - 1;
     let Some(at) = addresses.peers.get_mut(own) else {

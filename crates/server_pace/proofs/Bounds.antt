@@ -3,7 +3,7 @@ use Rattle.std.proofs.Common.{◌≡◌, ◌⊎◌, inl, inr, ℕ, ◌+◌, ◌-
 use Rattle.std.specs.Prelude.{nat_le, nat_lt, ◌||◌, if◌then◌else◌}
 use Rattle.std.proofs.Math.Nat.{mul-le-mul_left}
 use Rattle.std.proofs.lemmas.Bool.Decides.{nat_tests}
-use Rattle.server_pace.specs.Courses.{asked_again, first_course, heard_on, is_open, moved_on, stretches_to, told_on}
+use Rattle.server_pace.specs.Courses.{asked_again, first_course, flight_of, heard_on, is_open, moved_on, stretches_to, told_on}
 use Rattle.server_pace.specs.Laws.{BeginsWithin, ComesInTime, HasBudgets, HearsWithin, IsAsked, IsWithin, TellsWithin}
 use Rattle.server_pace.specs.Turns.{keeping_or, telling_or}
 use Rattle.site_drive.specs.declared.last_call.LastCall.TheVariants.{Ask, Nothing, TickOrAsk, Widen}
@@ -28,13 +28,13 @@ abbrev on_again : ℕ → ℕ → Course → Course
 on_again now i c = record c { first = i; next = max c.next i; repeats = min (c.repeats + 1) (2 ^ 32 - 1); at = now; asked = true }
 
 again_within : (times : Times) (now i : ℕ) (c : Course) → HasBudgets times → nat_le c.first i ≡ true → IsWithin times c → IsWithin times (asked_again times now i c)
-again_within times now i c has later is = by (passed c.began now (min (2 * c.took) (2 ^ 64 - 1)))
+again_within times now i c has later is = by (nat_lt (flight_of c) (now - c.since))
   where
     on : c.first ≤ i
     on = grind (arith, nat_tests, later)
 
     back : Course
-    back = record (on_again now i c) { next = i; budget = max (min (c.budget * 3) (2 ^ 32 - 1) / 4) times.least; began = Some now }
+    back = record (on_again now i c) { next = i; budget = max (min (c.budget * 3) (2 ^ 32 - 1) / 4) times.least; since = now; back = true }
 
     by : (b : Bool) → IsWithin times (if b then back else on_again now i c)
     by true = record {

@@ -27,10 +27,10 @@ module _ (q : Questions) (teller : Teller) (s : Node) (p : ℕ) where
       let asked : t.asked ≡ u.asked = x.asked ∙ sym y.asked in
       let is_known : t.known ≡ u.known = x.known ∙ sym y.known in
       let is_calm : t.calm ≡ u.calm = x.calm ∙ sym y.calm in
-      let is_first : t.first ≡ u.first = x.is_first ∙ sym y.is_first in (
+      let votes : t.votes ≡ u.votes = x.votes ∙ sym y.votes in (
         ⊎_elim (λ f. inl (sym full ∙ f))
-            (λ (a : (t.asked ≡ true) × ((t.known ≡ true) ⊎ ((t.calm ≡ true) × (t.first ≡ true)))).
-            inr (sym asked ∙ a.0, ⊎_elim (λ k. inl (sym is_known ∙ k)) (λ (k : (t.calm ≡ true) × (t.first ≡ true)). inr (sym is_calm ∙ k.0, sym is_first ∙ k.1)) a.1)) tells.0,
+            (λ (a : (t.asked ≡ true) × ((t.known ≡ true) ⊎ ((t.calm ≡ true) × (t.votes ≡ true)))).
+            inr (sym asked ∙ a.0, ⊎_elim (λ k. inl (sym is_known ∙ k)) (λ (k : (t.calm ≡ true) × (t.votes ≡ true)). inr (sym is_calm ∙ k.0, sym votes ∙ k.1)) a.1)) tells.0,
         ⊎_elim (λ k. inl (sym is_known ∙ k)) (λ k. inr (sym turn ∙ k)) tells.1,
       )
 

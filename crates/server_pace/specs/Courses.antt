@@ -1,5 +1,6 @@
 -- How far a node is told that asked. Times are milliseconds since the server began.
-use Rattle.std.specs.Prelude.{ℕ, ◌+◌, ◌-◌, ◌*◌, ◌/◌, ◌^◌, ◌≤◌, min, max, Bool, true, false, nat_le, nat_lt, if◌then◌else◌, Option, Some, None}
+use Rattle.std.specs.Prelude.{ℕ, ◌+◌, ◌-◌, ◌*◌, ◌/◌, ◌^◌, ◌≤◌, min, max, Bool, true, false, nat_le, nat_lt}
+use Rattle.std.specs.Prelude.{if◌then◌else◌, Option, Some, None}
 use Rattle.node.specs.declared.TheConstants.{MAX_TOLD}
 use Rattle.server_pace.specs.declared.course.Course.{Course}
 use Rattle.server_times.specs.Timing.{passed}
@@ -7,12 +8,15 @@ use Rattle.server_times.specs.declared.times.Times.{Times}
 
 -- that of a node which asks for instance i, and of which nothing was heard before
 abbrev pub first_course : Times → ℕ → ℕ → Course
-first_course times now i = record { first = i; next = i; budget = times.least; repeats = 0; at = now; began = Some now; took = times.flight; asked = true }
+first_course times now i = record { first = i; next = i; budget = times.least; repeats = 0; at = now; since = now; back = true; took = times.flight; asked = true }
 
 -- how long it took to ask further on, since it was told from its last question on; else as before
-abbrev pub flight_by : Option ℕ → ℕ → ℕ → ℕ
-flight_by None now took = took
-flight_by (Some began) now took = now - began
+abbrev pub flight_by : Course → ℕ → ℕ
+flight_by c now = if c.back then now - c.since else c.took
+
+-- for so long what it is told may be on its way: as long as that took, and twice as long if it is told again
+abbrev pub flight_of : Course → ℕ
+flight_of c = if c.back then min (2 * c.took) (2 ^ 64 - 1) else c.took
 
 -- by how many stretches instance i is further on, a part counted as one
 abbrev pub stretches_to : Course → ℕ → ℕ
@@ -26,8 +30,9 @@ moved_on times now i c = record c {
   budget = min (c.budget + stretches_to c i) times.most;
   repeats = 0;
   at = now;
-  began = None;
-  took = flight_by c.began now c.took;
+  since = now;
+  back = false;
+  took = flight_by c now;
   asked = true;
 }
 
@@ -36,8 +41,8 @@ moved_on times now i c = record c {
 abbrev pub asked_again : Times → ℕ → ℕ → Course → Course
 asked_again times now i c =
     let again = record c { first = i; next = max c.next i; repeats = min (c.repeats + 1) (2 ^ 32 - 1); at = now; asked = true } in
-    if passed c.began now (min (2 * c.took) (2 ^ 64 - 1))
-    then record again { next = i; budget = max (min (c.budget * 3) (2 ^ 32 - 1) / 4) times.least; began = Some now }
+    if nat_lt (flight_of c) (now - c.since)
+    then record again { next = i; budget = max (min (c.budget * 3) (2 ^ 32 - 1) / 4) times.least; since = now; back = true }
     else again
 
 -- it asked for instance i; a question for an earlier one comes late, or begins anew

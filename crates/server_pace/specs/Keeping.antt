@@ -1,5 +1,6 @@
 -- When a server puts on record what it learned. Times are milliseconds since it began.
-use Rattle.std.specs.Prelude.{◌≡◌, ◌⊎◌, ℕ, suc, ◌+◌, ◌-◌, ◌^◌, ◌≤◌, min, nat_lt, if◌then◌else◌, Option, Some, None, unwrap_or}
+use Rattle.std.specs.Prelude.{◌≡◌, ◌⊎◌, ℕ, suc, ◌+◌, ◌-◌, ◌^◌, ◌≤◌, min, nat_lt, if◌then◌else◌, Option, Some}
+use Rattle.std.specs.Prelude.{None, unwrap_or}
 use Rattle.site_ids.specs.Ids.{IsInstance}
 use Rattle.site_drive.specs.declared.last_call.LastCall.{LastCall}
 use Rattle.site_drive.specs.declared.last_call.LastCall.TheVariants.{Keep}
@@ -12,11 +13,13 @@ owed_at k now known = record k { since = if nat_lt k.kept known then Some (unwra
 
 -- values wait no longer: the oldest has waited for its time, or there are as many as a block has
 abbrev pub IsKeepDue : Keeping → Times → ℕ → ℕ → Type 0
-IsKeepDue k times now known = (since : ℕ) × (k.since ≡ Some since) × ((times.keeping ≤ now - since) ⊎ (times.block ≤ known - k.kept))
+IsKeepDue k times now known = (since : ℕ) × (k.since ≡ Some since)
+    × ((times.keeping ≤ now - since) ⊎ (times.block ≤ known - k.kept))
 
 -- from which instance on, and how many, are kept next: from the first that was not, as many as are known, a block at most
 abbrev pub IsNextBlock : Keeping → Times → ℕ → ℕ → Option (ℕ × ℕ) → Type 0
-IsNextBlock k times now known (Some x) = IsKeepDue k times now known × IsInstance (suc k.kept) × (x ≡ (suc k.kept, min (known - k.kept) times.block))
+IsNextBlock k times now known (Some x) = IsKeepDue k times now known × IsInstance (suc k.kept)
+    × (x ≡ (suc k.kept, min (known - k.kept) times.block))
 IsNextBlock k times now known None = ¬ (IsKeepDue k times now known × IsInstance (suc k.kept))
 
 -- so many more were

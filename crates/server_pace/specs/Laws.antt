@@ -28,11 +28,13 @@ BeginsWithin = (times : Times) (now i : ℕ) → HasBudgets times → IsWithin t
 
 -- whatever its node asks for
 abbrev pub HearsWithin : Type 0
-HearsWithin = (times : Times) (now i : ℕ) (c : Course) → HasBudgets times → IsWithin times c → IsWithin times (heard_on times now i c)
+HearsWithin = (times : Times) (now i : ℕ) (c : Course) → HasBudgets times → IsWithin times c
+    → IsWithin times (heard_on times now i c)
 
 -- and whatever it is told that may set out
 abbrev pub TellsWithin : Type 0
-TellsWithin = (times : Times) (count : ℕ) (c : Course) → count ≤ MAX_TOLD → is_open c count ≡ true → IsWithin times c → IsWithin times (told_on c count)
+TellsWithin = (times : Times) (count : ℕ) (c : Course) → count ≤ MAX_TOLD → is_open c count ≡ true
+    → IsWithin times c → IsWithin times (told_on c count)
 
 -- A question is due as soon as its time has passed since the last one, whatever came or is tried
 abbrev pub ComesInTime : Type 0

@@ -1,5 +1,7 @@
 -- When a server tries again, asks and tells, and how long it rests. Times are milliseconds since it began, rests microseconds.
-use Rattle.std.specs.Prelude.{◌≡◌, ◌≢◌, ◌⊎◌, ℕ, suc, ◌+◌, ◌-◌, ◌*◌, ◌/◌, ◌^◌, ◌<◌, ◌≤◌, min, max, List, length, Bool, true, false, not, ◌||◌, ◌&&◌, nat_eq, nat_lt, Option, Some, None, unwrap_or, IsSome, IsTrue, ◌↔◌, is_none, is_some, [], if◌then◌else◌}
+use Rattle.std.specs.Prelude.{◌≡◌, ◌≢◌, ◌⊎◌, ℕ, suc, ◌+◌, ◌-◌, ◌*◌, ◌/◌, ◌^◌, ◌<◌, ◌≤◌, min, max, List}
+use Rattle.std.specs.Prelude.{length, Bool, true, false, not, ◌||◌, ◌&&◌, nat_eq, nat_lt, Option, Some, None}
+use Rattle.std.specs.Prelude.{unwrap_or, IsSome, IsTrue, ◌↔◌, is_none, is_some, [], if◌then◌else◌}
 use Rattle.site_ids.specs.Ids.{BallotOf, IsInstance}
 use Rattle.site_ids.specs.NodeSets.{no_nodes, with_node, has_node, count_of, AreUnited}
 use Rattle.site_ids.specs.declared.value.Vote.{Vote}
@@ -239,6 +241,7 @@ first_pace times n node recorded = record {
   recorded = recorded;
   yielding = first_yielding;
   told = false;
+  tells = false;
 }
 
 -- more than half of the nodes promised or refused something since the last tick, itself included
@@ -287,17 +290,20 @@ called p now known due last = record p {
   keeping = keeping_after p.keeping last;
   stirred = false;
   told = is_telling last;
+  tells = p.told || is_telling last;
 }
 
 abbrev pub pace_after : Pace → ℕ → Seen → Option ℕ → Due → LastCall → Pace
 pace_after p now seen tries due last = called (noticed p now seen tries due) now seen.known due last
 
 -- as a batch begins
-pub record IsDue (p : Pace) (now : ℕ) (seen : Seen) (tries : Option ℕ) (block telling : Option (ℕ × ℕ)) (due : Due) : Type 0 where
+pub record IsDue (p : Pace) (now : ℕ) (seen : Seen) (tries : Option ℕ) (block telling : Option (ℕ × ℕ))
+    (due : Due) : Type 0 where
   pub fresh : IsTrue due.fresh ↔ (IsFresh p.ticking seen.wanted p.stirred × (due.yields ≡ false))
   pub kept : due.block ≡ block
   pub told : due.telling ≡ telling
-  pub question : IsTrue due.question ↔ Asks (asking_of p.last p.times now seen p.empty (awaits (noted p.ticking p.times now seen p.stirred)))
+  pub question : IsTrue due.question
+      ↔ Asks (asking_of p.last p.times now seen p.empty (awaits (noted p.ticking p.times now seen p.stirred)))
   pub tick : IsTrue due.tick
       ↔ Ticks (noted p.ticking p.times now seen p.stirred) now p.patience p.times seen.stake
   pub answered : IsTrue due.answered ↔ IsAnswered p
@@ -308,17 +314,25 @@ pub record IsDue (p : Pace) (now : ℕ) (seen : Seen) (tries : Option ℕ) (bloc
 -- ---- what is called, and heard
 
 -- as it tells others
-abbrev pub teller_of : Pace → ℕ → ℕ → Teller
-teller_of p now known = record { times = p.times; at = now; me = p.me; known = known; calm = not p.last.tried }
+abbrev pub teller_of : Pace → ℕ → Seen → Teller
+teller_of p now seen = record {
+  times = p.times;
+  at = now;
+  me = p.me;
+  known = seen.known;
+  furthest = max seen.reached p.recorded;
+  calm = not p.last.tried;
+}
 
 -- nobody is told in the step behind a telling, nor where something goes first; else the next one may be
-abbrev pub IsTelling : Pace → ℕ → Node → ℕ → ℕ → Bool → Option (ℕ × ℕ) → Questions → Type 0
-IsTelling p n s now known waits telling new =
+abbrev pub IsTelling : Pace → ℕ → Node → ℕ → Seen → Bool → Option (ℕ × ℕ) → Questions → Type 0
+IsTelling p n s now seen waits telling new =
     ((waits ≡ true) × (telling ≡ None) × (new ≡ p.questions))
-    ⊎ ((waits ≡ false) × TellsNext p.questions (teller_of p now known) n s telling new)
+    ⊎ ((waits ≡ false) × TellsNext p.questions (teller_of p now seen) n s telling new)
 
 -- This is called behind the turns of a batch that begins now, by a server in a group of n, over this node; and that is its pace then
-pub record CallsDue (old : Pace) (n : ℕ) (s : Node) (now : ℕ) (drained : Bool) (last : LastCall) (new : Pace) : Type 0 where
+pub record CallsDue (old : Pace) (n : ℕ) (s : Node) (now : ℕ) (drained : Bool) (last : LastCall)
+    (new : Pace) : Type 0 where
   pub seen : Seen
   pub tries : Option ℕ
   pub block : Option (ℕ × ℕ)
@@ -327,7 +341,7 @@ pub record CallsDue (old : Pace) (n : ℕ) (s : Node) (now : ℕ) (drained : Boo
   pub is_seen : IsSeen s old.me old.recorded drained seen
   pub is_tried : IsTriedBy s (suc seen.known) tries
   pub is_block : IsNextBlock (owed_at old.keeping now seen.known) old.times now seen.known block
-  pub is_told : IsTelling old n s now seen.known (old.told || goes_first due) telling new.questions
+  pub is_told : IsTelling old n s now seen (old.told || goes_first due) telling new.questions
   pub is_due : IsDue old now seen tries block telling due
   pub is_called : last ≡ call_behind due
   pub after : new ≡ record (pace_after old now seen tries due last) { questions = new.questions }

@@ -1,6 +1,7 @@
 -- Which nodes are there, and whose turn it is to tell one of them. Times are milliseconds since the server
 -- began.
-use Rattle.std.specs.Prelude.{◌≡◌, ℕ, zero, suc, ◌-◌, ◌<◌, ◌≤◌, List, replicate, get_or, Bool, false, not, ◌&&◌, nat_lt, if◌then◌else◌, Option, Some, None}
+use Rattle.std.specs.Prelude.{◌≡◌, ℕ, zero, suc, ◌-◌, ◌<◌, ◌≤◌, List, replicate, get_or, Bool, false, not}
+use Rattle.std.specs.Prelude.{◌&&◌, nat_lt, if◌then◌else◌, Option, Some, None}
 use Rattle.site_ids.specs.NodeSets.{no_nodes}
 use Rattle.server_pace.specs.Places.{places_behind}
 use Rattle.server_pace.specs.declared.present.Present.{Present}
@@ -12,7 +13,8 @@ nobody_heard = record { came = no_nodes; at = replicate 9 None }
 
 -- those that came were heard now, and the others as before
 abbrev pub AreHeard : List Bool → List (Option ℕ) → ℕ → List (Option ℕ) → Type 0
-AreHeard came at now new = (i : ℕ) → i < 9 → get_or new i None ≡ (if get_or came i false then Some now else get_or at i None)
+AreHeard came at now new = (i : ℕ) → i < 9
+    → get_or new i None ≡ (if get_or came i false then Some now else get_or at i None)
 
 -- node q was heard not long ago
 abbrev pub is_there : List (Option ℕ) → Times → ℕ → ℕ → Bool

@@ -1,5 +1,7 @@
 -- When a server asks, and when it tells whom. Times are milliseconds since it began.
-use Rattle.std.specs.Prelude.{◌≡◌, ◌≢◌, ◌⊎◌, ℕ, ◌+◌, ◌-◌, ◌^◌, ◌<◌, ◌≤◌, min, nat_eq, nat_le, nat_lt, List, replicate, get_or, set, Bool, true, false, not, ◌&&◌, ◌||◌, if◌then◌else◌, Option, Some, None, IsTrue, ◌↔◌}
+use Rattle.std.specs.Prelude.{◌≡◌, ◌≢◌, ◌⊎◌, ℕ, ◌+◌, ◌-◌, ◌^◌, ◌<◌, ◌≤◌, min, nat_eq, nat_le, nat_lt, List}
+use Rattle.std.specs.Prelude.{replicate, get_or, set, Bool, true, false, not, ◌&&◌, ◌||◌, if◌then◌else◌}
+use Rattle.std.specs.Prelude.{Option, Some, None, IsTrue, ◌↔◌}
 use Rattle.site_ids.specs.declared.TheConstants.{MAX_INSTANCE}
 use Rattle.site_ids.specs.Ids.{IsInstance, IsNode}
 use Rattle.site_ids.specs.NodeSets.{no_nodes}
@@ -58,9 +60,9 @@ asking_of last times now seen empty more = record {
 -- ---- tellings
 
 -- Something is to be told: all instances of a telling; or, as it asked, what is known; or what was voted for
--- from the instance on that it asked for, where nobody tries a value
+-- from the instance on that it asked for, where nobody tries a value and there may be such votes
 abbrev pub HasNews : Telling → Type 0
-HasNews t = (t.full ≡ true) ⊎ ((t.asked ≡ true) × ((t.known ≡ true) ⊎ ((t.calm ≡ true) × (t.first ≡ true))))
+HasNews t = (t.full ≡ true) ⊎ ((t.asked ≡ true) × ((t.known ≡ true) ⊎ ((t.calm ≡ true) × (t.votes ≡ true))))
 
 -- what others may tell too is told in turn; votes are told by each
 abbrev pub Tells : Telling → Type 0
@@ -80,11 +82,13 @@ newer (Some i) before = Some i
 newer None before = before
 
 abbrev pub AreAsked : List (Option ℕ) → List (Option ℕ) → List (Option ℕ) → Type 0
-AreAsked asked heard all = (i : ℕ) → i < 9 → get_or all i None ≡ newer (get_or heard i None) (get_or asked i None)
+AreAsked asked heard all = (i : ℕ) → i < 9
+    → get_or all i None ≡ newer (get_or heard i None) (get_or asked i None)
 
 -- each question that waits changes how far its node is told
 abbrev pub AreOnCourse : Times → ℕ → List (Option ℕ) → List (Option Course) → List (Option Course) → Type 0
-AreOnCourse times now asked old new = (i : ℕ) → i < 9 → get_or new i None ≡ course_after times now (get_or asked i None) (get_or old i None)
+AreOnCourse times now asked old new = (i : ℕ) → i < 9
+    → get_or new i None ≡ course_after times now (get_or asked i None) (get_or old i None)
 
 -- none waits then, and who was heard was so now
 pub record TakesIn (old : Questions) (times : Times) (now : ℕ) (new : Questions) : Type 0 where
@@ -100,11 +104,12 @@ abbrev pub told_count : ℕ → ℕ → ℕ → ℕ
 told_count known i count = if nat_le i known then min count (known - i + 1) else count
 
 -- what stands of node p, on that course
-pub record StandsSo (q : Questions) (teller : Teller) (s : Node) (p : ℕ) (course : Course) (telling : Telling) : Type 0 where
+pub record StandsSo (q : Questions) (teller : Teller) (s : Node) (p : ℕ) (course : Course)
+    (telling : Telling) : Type 0 where
   pub full : IsTrue telling.full ↔ IsFull s course.next
   pub asked : telling.asked ≡ course.asked
   pub known : telling.known ≡ nat_le course.next teller.known
-  pub is_first : telling.first ≡ nat_le course.next course.first
+  pub votes : telling.votes ≡ (nat_le course.next course.first && nat_le course.next teller.furthest)
   pub calm : telling.calm ≡ teller.calm
   pub turn : IsTrue telling.turn ↔ HasTurn q.present.at teller.times teller.at p teller.me course.repeats
 
@@ -129,7 +134,8 @@ pub record IsNextTo (q : Questions) (teller : Teller) (n : ℕ) (s : Node) (p : 
 abbrev pub IsFirstDue : Questions → Teller → ℕ → Node → Next → Type 0
 IsFirstDue q teller n s next =
     (p : ℕ) × IsNextTo q teller n s p next
-    × ((other : ℕ) (c : Course) → IsNode n other → places_behind q.last other < places_behind q.last p → ¬ IsDueTo q teller s other c)
+    × ((other : ℕ) (c : Course) → IsNode n other → places_behind q.last other < places_behind q.last p
+    → ¬ IsDueTo q teller s other c)
 
 abbrev pub NobodyIsDue : Questions → Teller → ℕ → Node → Type 0
 NobodyIsDue q teller n s = (p : ℕ) (c : Course) → IsNode n p → ¬ IsDueTo q teller s p c
@@ -139,9 +145,11 @@ abbrev pub told_so : Questions → Next → Questions
 told_so q next = record q { courses = set q.courses (next.to - 1) (Some (told_on next.course next.count)); last = next.to }
 
 -- What was heard is taken in, and then the first node to which something is due is told, if there is one
-pub record TellsNext (old : Questions) (teller : Teller) (n : ℕ) (s : Node) (telling : Option (ℕ × ℕ)) (new : Questions) : Type 0 where
+pub record TellsNext (old : Questions) (teller : Teller) (n : ℕ) (s : Node) (telling : Option (ℕ × ℕ))
+    (new : Questions) : Type 0 where
   pub mid : Questions
   pub takes : TakesIn old teller.times teller.at mid
   pub tells :
-      ((next : Next) × IsFirstDue mid teller n s next × (telling ≡ Some (next.to, next.first)) × (new ≡ told_so mid next))
+      ((next : Next) × IsFirstDue mid teller n s next × (telling ≡ Some (next.to, next.first))
+      × (new ≡ told_so mid next))
       ⊎ (NobodyIsDue mid teller n s × (telling ≡ None) × (new ≡ mid))

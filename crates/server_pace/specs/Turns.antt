@@ -1,7 +1,8 @@
 -- Which call a server makes behind the turns of a batch.
 use Rattle.std.specs.Prelude.{ℕ, Bool, true, false, ◌||◌, Option, Some, None, is_some, if◌then◌else◌}
 use Rattle.site_drive.specs.declared.last_call.LastCall.{LastCall}
-use Rattle.site_drive.specs.declared.last_call.LastCall.TheVariants.{TickOrAsk, Widen, Ask, Tell, Keep, Nothing}
+use Rattle.site_drive.specs.declared.last_call.LastCall.TheVariants.{TickOrAsk, Widen, Ask, Tell, Keep}
+use Rattle.site_drive.specs.declared.last_call.LastCall.TheVariants.{Nothing}
 use Rattle.server_pace.specs.declared.due.Due.{Due}
 
 -- a question goes before a telling

@@ -54,8 +54,9 @@ pub struct Telling {
     pub asked: bool,
     /// The first of the instances is known.
     pub known: bool,
-    /// It is the one that its node asked for.
-    pub first: bool,
+    /// It is the one that its node asked for, and messages were of it or of a later one, or its record had a
+    /// vote so far on as it began. Else there are no votes to tell.
+    pub votes: bool,
     /// Nobody was seen to try a value since the teller asked last.
     pub calm: bool,
     /// It is the teller's turn.
@@ -68,7 +69,7 @@ impl Telling {
     fn has_news(self) -> bool
         ensures { IsTrue result ↔ HasNews self }
     {
-        self.full || (self.asked && (self.known || (self.calm && self.first)))
+        self.full || (self.asked && (self.known || (self.calm && self.votes)))
     }
 
     /// Votes are told by each node, as a majority of them counts, and what is known by the one whose turn it

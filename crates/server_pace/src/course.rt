@@ -1,7 +1,8 @@
 //! How far a node is told that asked.
 
-ghost use Rattle.std.specs.Prelude.{◌≡◌, Some};
-ghost use Rattle.server_pace.specs.Courses.{asked_again, first_course, flight_by, heard_on, is_open, moved_on, stretches_to, told_on};
+ghost use Rattle.std.specs.Prelude.{◌≡◌};
+ghost use Rattle.server_pace.specs.Courses.{asked_again, first_course, flight_by, flight_of, heard_on};
+ghost use Rattle.server_pace.specs.Courses.{is_open, moved_on, stretches_to, told_on};
 
 use node::MAX_TOLD;
 use server_times::{Times, has_passed};
@@ -23,9 +24,11 @@ pub struct Course {
     pub repeats: u32,
     /// When its last question was heard, in milliseconds since the server began.
     pub at: u64,
-    /// Since when it is told from the first instance on, until it asks further on.
-    pub began: Option<u64>,
-    /// How many milliseconds that took the last time.
+    /// Since when it is told from the first instance on: it asked further on then, or was told again.
+    pub since: u64,
+    /// It was told again then, or for the first time.
+    pub back: bool,
+    /// How many milliseconds went by the last time from there until it asked further on.
     pub took: u64,
     /// It was told nothing since its last question.
     pub asked: bool,
@@ -42,7 +45,8 @@ impl Course {
             budget: times.least,
             repeats: 0,
             at: now,
-            began: Some(now),
+            since: now,
+            back: true,
             took: times.flight,
             asked: true,
         }
@@ -58,11 +62,23 @@ impl Course {
 
     /// How long it took to ask further on.
     fn flight_by(self, now: u64) -> u64
-        ensures { result ≡ flight_by self.began now self.took }
+        ensures { result ≡ flight_by self now }
     {
-        match self.began {
-            Some(began) => now.saturating_sub(began),
-            None => self.took,
+        if self.back {
+            now.saturating_sub(self.since)
+        } else {
+            self.took
+        }
+    }
+
+    /// For how many milliseconds what it is told may be on its way.
+    fn flight(self) -> u64
+        ensures { result ≡ flight_of self }
+    {
+        if self.back {
+            self.took.saturating_mul(2)
+        } else {
+            self.took
         }
     }
 
@@ -77,7 +93,8 @@ impl Course {
             budget: more.min(times.most),
             repeats: 0,
             at: now,
-            began: None,
+            since: now,
+            back: false,
             took: self.flight_by(now),
             asked: true,
         }
@@ -95,13 +112,14 @@ impl Course {
             asked: true,
             ..self
         };
-        if !has_passed(self.began, now, self.took.saturating_mul(2)) {
+        if now.saturating_sub(self.since) <= self.flight() {
             return again;
         }
         Course {
             next: instance,
             budget: (self.budget.saturating_mul(3) / 4).max(times.least),
-            began: Some(now),
+            since: now,
+            back: true,
             ..again
         }
     }

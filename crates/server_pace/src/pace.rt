@@ -1,13 +1,17 @@
 //! When a server tries again, when it asks and tells, and how long it rests: all of it numbers.
 
-ghost use Rattle.std.specs.Prelude.{◌≡◌, ◌↔◌, ◌⊎◌, ◌<◌, ◌||◌, ℕ, suc, Option, IsSome, IsTrue, IfSome, Some, None, true, false, if◌then◌else◌};
+ghost use Rattle.std.specs.Prelude.{◌≡◌, ◌↔◌, ◌⊎◌, ◌<◌, ◌||◌, ℕ, suc, Option, IsSome, IsTrue, IfSome, Some};
+ghost use Rattle.std.specs.Prelude.{None, true, false, if◌then◌else◌};
 ghost use Rattle.node.specs.Nodes.{Node as AbstractNode, WantsTick};
 ghost use Rattle.node.specs.Standing.{IsNodeOf};
 ghost use Rattle.server_pace.specs.declared.due.Due.{Due};
 ghost use Rattle.server_pace.specs.declared.seen.Seen.{Seen};
 ghost use Rattle.site_drive.specs.declared.last_call.LastCall.TheVariants.{Ask, TickOrAsk};
 ghost use Rattle.server_pace.specs.Keeping.{keeping_after, owed_at, IsNextBlock};
-ghost use Rattle.server_pace.specs.Pacing.{answers_after, called, empty_after, first_pace, heard, noticed, pace_after, question_after, resting_of, ticking_after, IsAnswered, CallsDue, HearsBatch, IsDue, IsFresh, IsTelling, IsUntried, IsYielding};
+ghost use Rattle.server_pace.specs.Pacing.{answers_after, called, empty_after, first_pace, heard, noticed};
+ghost use Rattle.server_pace.specs.Pacing.{pace_after, question_after, resting_of, ticking_after, IsAnswered};
+ghost use Rattle.server_pace.specs.Pacing.{CallsDue, HearsBatch, IsDue, IsFresh, IsTelling, IsUntried};
+ghost use Rattle.server_pace.specs.Pacing.{IsYielding};
 ghost use Rattle.server_times.specs.Timing.{rest_after};
 ghost use Rattle.server_pace.specs.Turns.{call_behind, goes_first, is_telling};
 
@@ -52,6 +56,8 @@ pub struct Pace {
     yielding: Yielding,
     // the last call was a telling
     told: bool,
+    // it was, or the one before it
+    tells: bool,
 }
 
 /// Whether it is a telling.
@@ -81,6 +87,7 @@ impl Pace {
             recorded,
             yielding: Yielding::new(),
             told: false,
+            tells: false,
         }
     }
 
@@ -104,15 +111,18 @@ impl Pace {
     /// What is called behind the turns of the next batch, which begins now, where all that had come was taken in by the last one, or not. What is called
     /// counts from now on. A value that was just submitted is tried at once where nobody tries one and it is no other server's turn.
     pub fn due<D: Disk>(&mut self, now: u64, node: &Node<D>, drained: bool) -> LastCall
-        ensures fresh { (s : AbstractNode) → IsNodeOf node.now s → WantsTick s → IsUntried s → ¬ IsYielding self.old now None → self.old.ticking.since ≡ None → self.old.stirred ≡ false → result ≡ TickOrAsk }
-        ensures due { (s : AbstractNode) → IsNodeOf node.now s → CallsDue self.old node.now.cluster s now drained result self.new }
+        ensures fresh { (s : AbstractNode) → IsNodeOf node.now s → WantsTick s → IsUntried s
+            → ¬ IsYielding self.old now None → self.old.ticking.since ≡ None → self.old.stirred ≡ false
+            → result ≡ TickOrAsk }
+        ensures due { (s : AbstractNode) → IsNodeOf node.now s
+            → CallsDue self.old node.now.cluster s now drained result self.new }
     {
         let seen = Seen::of(node, self.me, self.recorded, drained);
         let block = self.next_block(now, seen.known);
         let tries = first_tried_by(node, seen.known);
         let due = self.notice(now, seen, tries, block);
         let waits = self.tells_nobody(&due);
-        let telling = self.next_telling(now, node, seen.known, waits);
+        let telling = self.next_telling(now, node, seen, waits);
         self.call(now, seen.known, Due { telling, ..due })
     }
 
@@ -136,10 +146,11 @@ impl Pace {
         &mut self,
         now: u64,
         node: &Node<D>,
-        known: u32,
+        seen: Seen,
         waits: bool,
     ) -> Option<(NodeId, Instance)>
-        ensures told { (s : AbstractNode) → IsNodeOf node.now s → IsTelling self.old node.now.cluster s now known waits result self.new.questions }
+        ensures told { (s : AbstractNode) → IsNodeOf node.now s
+            → IsTelling self.old node.now.cluster s now seen waits result self.new.questions }
         ensures same { self.new ≡ record self.old { questions = self.new.questions } }
     {
         if waits {
@@ -149,7 +160,8 @@ impl Pace {
             times: self.times,
             at: now,
             me: self.me,
-            known,
+            known: seen.known,
+            furthest: seen.reached.max(self.recorded),
             calm: !self.last.tried,
         };
         self.questions.next(&teller, node)
@@ -212,7 +224,9 @@ impl Pace {
         let last = due.last_call();
         self.begin(now, known, &due, &last);
         self.stirred = false;
-        self.told = is_telling(&last);
+        let told = is_telling(&last);
+        self.tells = self.told || told;
+        self.told = told;
         last
     }
 
@@ -253,11 +267,12 @@ impl Pace {
         }
     }
 
-    /// How many microseconds are rested behind a step: none while something came. It is told whether datagrams came or bytes of clients, and whether a response
-    /// was written.
+    /// How many microseconds are rested after a step: none while something came, and only a few while it tells
+    /// somebody something. It is told whether datagrams came or bytes of clients, and whether a response was
+    /// written.
     pub fn rest(&mut self, came: bool, served: bool) -> Option<u64>
         ensures rests { IsSome result ↔ (came ≡ false) × (served ≡ false) × (self.old.stirred ≡ false) }
-        ensures long { IfSome result (λ micros. micros ≡ rest_after self.old.times self.old.empty) }
+        ensures long { IfSome result (λ micros. micros ≡ rest_after self.old.times self.old.empty self.old.tells) }
         ensures counts { self.new ≡ record self.old { empty = empty_after (resting_of self.old came served) } }
     {
         let resting = Resting {
@@ -266,7 +281,7 @@ impl Pace {
             stirred: self.stirred,
             empty: self.empty,
         };
-        let micros = self.times.rest_after(self.empty);
+        let micros = self.times.rest_after(self.empty, self.tells);
         self.empty = resting.empty_after();
         resting.is_due().then_some(micros)
     }

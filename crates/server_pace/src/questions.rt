@@ -1,6 +1,7 @@
 //! Questions that were heard, and whom to tell what.
 
-ghost use Rattle.std.specs.Prelude.{◌≡◌, ◌↔◌, ◌≤◌, ◌-◌, ℕ, true, get_or, set, Some, None, IfSome, IfNone, IsTrue, replicate};
+ghost use Rattle.std.specs.Prelude.{◌≡◌, ◌↔◌, ◌≤◌, ◌-◌, ℕ, true, get_or, set, Some, None, IfSome, IfNone};
+ghost use Rattle.std.specs.Prelude.{IsTrue, replicate};
 ghost use Rattle.node.specs.Nodes.{Node as AbstractNode};
 ghost use Rattle.node.specs.Standing.{IsNodeOf};
 ghost use Rattle.node.specs.Tellings.{covered_from};
@@ -8,7 +9,9 @@ ghost use Rattle.site_ids.specs.Ids.{IsInstance, IsNode};
 ghost use Rattle.site_ids.specs.NodeSets.{AreUnited};
 ghost use Rattle.server_pace.specs.Courses.{course_after};
 ghost use Rattle.server_pace.specs.Places.{number_behind};
-ghost use Rattle.server_pace.specs.Questioning.{newer, no_questions, told_count, told_so, AreAsked, AreOnCourse, IsDueTo, IsFirstDue, IsFull, IsNextTo, NobodyIsDue, StandsSo, TakesIn, TellsNext};
+ghost use Rattle.server_pace.specs.Questioning.{newer, no_questions, told_count, told_so, AreAsked};
+ghost use Rattle.server_pace.specs.Questioning.{AreOnCourse, IsDueTo, IsFirstDue, IsFull, IsNextTo};
+ghost use Rattle.server_pace.specs.Questioning.{NobodyIsDue, StandsSo, TakesIn, TellsNext};
 
 use crate::asking::Telling;
 use crate::course::Course;
@@ -38,6 +41,8 @@ pub(crate) struct Teller {
     pub me: NodeId,
     /// So many values are known.
     pub known: u32,
+    /// The furthest instance that messages were of, or at which its record had a vote as it began.
+    pub furthest: u32,
     /// Nobody was seen to try a value since it asked last.
     pub calm: bool,
 }
@@ -181,7 +186,7 @@ impl Questions {
             full: is_full(node, first),
             asked: course.asked,
             known: course.next <= teller.known,
-            first: course.next <= course.first,
+            votes: course.next <= course.first && course.next <= teller.furthest,
             calm: teller.calm,
             turn: self
                 .present
@@ -192,8 +197,10 @@ impl Questions {
     /// What is told to a node next, if that is due.
     fn next_to<D: Disk>(&self, teller: &Teller, node: &Node<D>, to: NodeId) -> Option<Next>
         requires { IsNode node.now.cluster to }
-        ensures some { IfSome result (λ next. (s : AbstractNode) → IsNodeOf node.now s → IsNextTo self.now teller.now node.now.cluster s to next) }
-        ensures none { IfNone result ((s : AbstractNode) → IsNodeOf node.now s → (c : Course) → ¬ IsDueTo self.now teller.now s to c) }
+        ensures some { IfSome result (λ next. (s : AbstractNode) → IsNodeOf node.now s
+            → IsNextTo self.now teller.now node.now.cluster s to next) }
+        ensures none { IfNone result ((s : AbstractNode) → IsNodeOf node.now s → (c : Course)
+            → ¬ IsDueTo self.now teller.now s to c) }
     {
         let course = self.courses[usize::from(to.number()) - 1]?;
         let first = Instance::new(course.next)?;
@@ -221,7 +228,8 @@ impl Questions {
         number: u8,
     ) -> Option<Next>
         requires { cluster ≡ node.now.cluster }
-        ensures some { IfSome result (λ next. (s : AbstractNode) → IsNodeOf node.now s → IsNextTo self.now teller.now cluster s number next) }
+        ensures some { IfSome result (λ next. (s : AbstractNode) → IsNodeOf node.now s
+            → IsNextTo self.now teller.now cluster s number next) }
         ensures none { IfNone result ((s : AbstractNode) → IsNodeOf node.now s → (c : Course)
             → IsNode cluster number → ¬ IsDueTo self.now teller.now s number c) }
     {
@@ -231,8 +239,10 @@ impl Questions {
 
     /// The first of them, behind the node that was told last.
     fn first_due<D: Disk>(&self, teller: &Teller, node: &Node<D>) -> Option<Next>
-        ensures some { IfSome result (λ next. (s : AbstractNode) → IsNodeOf node.now s → IsFirstDue self.now teller.now node.now.cluster s next) }
-        ensures none { IfNone result ((s : AbstractNode) → IsNodeOf node.now s → NobodyIsDue self.now teller.now node.now.cluster s) }
+        ensures some { IfSome result (λ next. (s : AbstractNode) → IsNodeOf node.now s
+            → IsFirstDue self.now teller.now node.now.cluster s next) }
+        ensures none { IfNone result ((s : AbstractNode) → IsNodeOf node.now s
+            → NobodyIsDue self.now teller.now node.now.cluster s) }
     {
         let cluster = node.cluster();
         let last = self.last.number();
@@ -259,7 +269,8 @@ impl Questions {
         teller: &Teller,
         node: &Node<D>,
     ) -> Option<(NodeId, Instance)>
-        ensures { (s : AbstractNode) → IsNodeOf node.now s → TellsNext self.old teller.now node.now.cluster s result self.new }
+        ensures { (s : AbstractNode) → IsNodeOf node.now s
+            → TellsNext self.old teller.now node.now.cluster s result self.new }
     {
         self.take_in(teller.times, teller.at);
         let next = self.first_due(teller, node)?;

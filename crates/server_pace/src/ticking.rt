@@ -1,7 +1,8 @@
 //! When a server ticks.
 
 ghost use Rattle.std.specs.Prelude.{◌≡◌, ◌↔◌, IsTrue, None, true, false};
-ghost use Rattle.server_pace.specs.Pacing.{awaits, begun, first_ticking, is_one_more, leaves, longer_after, noted, ticked, waited, GoesOn, Ticks};
+ghost use Rattle.server_pace.specs.Pacing.{awaits, begun, first_ticking, is_one_more, leaves, longer_after};
+ghost use Rattle.server_pace.specs.Pacing.{noted, ticked, waited, GoesOn, Ticks};
 
 use crate::seen::Seen;
 use server_times::Times;

@@ -1,7 +1,8 @@
 //! All times of a server.
 
-ghost use Rattle.std.specs.Prelude.{◌≡◌, ◌↔◌, ℕ, ◌-◌, ◌≤◌, IfSome, IsTrue, Some, None, unwrap_or};
-ghost use Rattle.server_times.specs.Timing.{asks_after, asks_again_after, passed, patience_of, rest_after};
+ghost use Rattle.std.specs.Prelude.{◌≡◌, ◌↔◌, ℕ, ◌-◌, ◌≤◌, IfSome, IsTrue, Some, None, true, unwrap_or};
+ghost use Rattle.server_times.specs.Timing.{asks_after, asks_again_after, long_rest, passed, patience_of};
+ghost use Rattle.server_times.specs.Timing.{rest_after};
 ghost use Rattle.server_times.specs.declared.times.TheConstants.{STANDARD};
 
 /// All that a server waits for, in one place.
@@ -53,12 +54,18 @@ pub struct Times {
     pub idle: u32,
     /// Behind so many it is quiet: some three seconds (`Pace::rest`).
     pub quiet: u32,
+    /// For so many steps in which nothing came, one after another, it does not rest: a client that was answered
+    /// comes again at once, and so does another node's message (`Pace::rest`).
+    pub eager: u32,
     /// Microseconds that it rests behind a step in which nothing came, while it is busy (`Pace::rest`).
     pub rest: u64,
     /// The same where it is idle.
     pub idle_rest: u64,
     /// The same where it is quiet.
     pub quiet_rest: u64,
+    /// Microseconds that it rests at most if it told a node something in this step or in the one before it:
+    /// the next telling is near, and no telling wakes a server (`Pace::rest`).
+    pub telling_rest: u64,
     /// Milliseconds that a connection is kept open between requests: nothing of the next one came, and nothing is left to write. RFC 9112, section 9.5,
     /// permits to close one at any time.
     pub between_requests: u64,
@@ -100,9 +107,11 @@ const STANDARD: Times = Times {
     yielding: 50,
     idle: 200,
     quiet: 2000,
+    eager: 16,
     rest: 10,
     idle_rest: 1500,
     quiet_rest: 20_000,
+    telling_rest: 500,
     between_requests: 5000,
     without_progress: 1000,
     returning: 2000,
@@ -163,17 +172,35 @@ impl Times {
         longer.min(self.asks_after(empty))
     }
 
-    /// How many microseconds it rests behind a step in which nothing came, after so many others: the longer the more there were.
-    pub fn rest_after(self, empty: u32) -> u64
-        ensures is { result ≡ rest_after self empty }
-        ensures longer { (fewer : ℕ) → fewer ≤ empty → self.rest ≤ self.idle_rest → self.idle_rest ≤ self.quiet_rest → rest_after self fewer ≤ result }
+    /// How many microseconds it rests after so many steps in which nothing came: the longer the more there
+    /// were.
+    fn long_rest(self, empty: u32) -> u64
+        ensures { result ≡ long_rest self empty }
     {
-        if empty < self.idle {
+        if empty < self.eager {
+            0
+        } else if empty < self.idle {
             self.rest
         } else if empty < self.quiet {
             self.idle_rest
         } else {
             self.quiet_rest
+        }
+    }
+
+    /// How many microseconds it rests after a step in which nothing came, and so many others before it. It
+    /// tells somebody something (`tells`), or it does not.
+    pub fn rest_after(self, empty: u32, tells: bool) -> u64
+        ensures is { result ≡ rest_after self empty tells }
+        ensures longer { (fewer : ℕ) → fewer ≤ empty → self.rest ≤ self.idle_rest
+            → self.idle_rest ≤ self.quiet_rest → rest_after self fewer tells ≤ result }
+        ensures bound { tells ≡ true → result ≤ self.telling_rest }
+    {
+        let long = self.long_rest(empty);
+        if tells {
+            long.min(self.telling_rest)
+        } else {
+            long
         }
     }
 }

@@ -38,8 +38,8 @@ fn a_question_that_brought_news_is_followed_by_the_next(rt: HostRuntime) {
     }
 }
 
-/// Whether it is full, whether its node asked, whether the first instance is known, whether that is the one
-/// asked for, whether nobody tries a value, whether it is the teller's turn; and whether it is due.
+/// Whether it is full, whether its node asked, whether the first instance is known, whether votes may be told
+/// from there on, whether nobody tries a value, whether it is the teller's turn; and whether it is due.
 const TELLINGS: &[(bool, bool, bool, bool, bool, bool, bool)] = &[
     // Votes are told in any turn, all of a telling at any time.
     (true, false, false, false, false, false, true),
@@ -57,12 +57,12 @@ const TELLINGS: &[(bool, bool, bool, bool, bool, bool, bool)] = &[
 
 #[test]
 fn what_is_known_is_told_in_turn(rt: HostRuntime) {
-    for &(full, asked, known, first, calm, turn, due) in TELLINGS {
+    for &(full, asked, known, votes, calm, turn, due) in TELLINGS {
         let telling = Telling {
             full,
             asked,
             known,
-            first,
+            votes,
             calm,
             turn,
         };

@@ -17,7 +17,8 @@ fn course() -> Course {
         budget: 5,
         repeats: 0,
         at: 1000,
-        began: None,
+        since: 1000,
+        back: false,
         took: 100,
         asked: false,
     }
@@ -47,6 +48,7 @@ fn who_asks_further_on_is_told_more(rt: HostRuntime) {
             next: number.max(228),
             budget,
             at: 1700,
+            since: 1700,
             asked: true,
             ..course()
         };
@@ -57,40 +59,67 @@ fn who_asks_further_on_is_told_more(rt: HostRuntime) {
 
 #[test]
 fn who_asks_again_is_told_again(rt: HostRuntime) {
-    // Nothing is known to be on its way: it is told from there on, a quarter less.
     for number in [100, 101] {
+        // What it was told may be on its way for as long as that took.
+        let first = course().heard(times(), 1100, instance(&rt, number));
+        let waits = Course {
+            first: number,
+            repeats: 1,
+            at: 1100,
+            asked: true,
+            ..course()
+        };
+        same(&rt, first, waits);
+        // Then it is told from there on, a quarter less.
+        let again = course().heard(times(), 1101, instance(&rt, number));
         let wanted = Course {
             first: number,
             next: number,
             budget: 3,
             repeats: 1,
-            at: 1700,
-            began: Some(1700),
+            at: 1101,
+            since: 1101,
+            back: true,
             asked: true,
             ..course()
         };
-        let again = course().heard(times(), 1700, instance(&rt, number));
         same(&rt, again, wanted);
-        // What it is told since may be on its way for twice as long as that took.
-        let soon = again.heard(times(), 1899, instance(&rt, number));
+    }
+}
+
+#[test]
+fn what_is_told_again_may_be_on_its_way(rt: HostRuntime) {
+    let again = Course {
+        back: true,
+        ..course()
+    };
+    for number in [100, 101] {
+        // For twice as long as that took.
+        let soon = again.heard(times(), 1200, instance(&rt, number));
         let waits = Course {
-            repeats: 2,
-            at: 1899,
+            first: number,
+            repeats: 1,
+            at: 1200,
+            asked: true,
             ..again
         };
         same(&rt, soon, waits);
-        let late = again.heard(times(), 1900, instance(&rt, number));
+        let late = again.heard(times(), 1201, instance(&rt, number));
         let anew = Course {
-            budget: 2,
-            repeats: 2,
-            at: 1900,
-            began: Some(1900),
-            ..again
+            next: number,
+            budget: 3,
+            at: 1201,
+            since: 1201,
+            ..waits
         };
         same(&rt, late, anew);
         // So long it took, where it asks further on.
-        let further = soon.heard(times(), 1950, instance(&rt, 300));
-        same(&rt, (further.began, further.took), (None, 250));
+        let further = soon.heard(times(), 1250, instance(&rt, 300));
+        same(
+            &rt,
+            (further.since, further.back, further.took),
+            (1250, false, 250),
+        );
         same(&rt, (further.repeats, further.next), (0, 300));
     }
 }

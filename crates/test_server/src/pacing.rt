@@ -26,9 +26,11 @@ pub(crate) const TIMES: Times = Times {
     yielding: 50,
     idle: 200,
     quiet: 2000,
+    eager: 16,
     rest: 10,
     idle_rest: 1500,
     quiet_rest: 20_000,
+    telling_rest: 500,
     between_requests: 5000,
     without_progress: 1000,
     returning: 2000,
@@ -365,7 +367,9 @@ fn a_tick_that_a_majority_answers_in_vain_is_counted(rt: HostRuntime) {
 
 /// What came (anything, a response, messages that are no questions), empty steps, how many microseconds are rested, and empty steps then.
 const RESTS: &[(bool, bool, bool, u32, Option<u64>, u32)] = &[
-    (false, false, false, 0, Some(10), 1),
+    (false, false, false, 0, Some(0), 1),
+    (false, false, false, 15, Some(0), 16),
+    (false, false, false, 16, Some(10), 17),
     (false, false, false, 199, Some(10), 200),
     (false, false, false, 200, Some(1500), 201),
     (false, false, false, 1999, Some(1500), 2000),
@@ -386,9 +390,27 @@ fn a_step_rests_where_nothing_came(rt: HostRuntime) {
             stirred,
             empty,
         };
-        let rest = resting.is_due().then_some(TIMES.rest_after(empty));
+        let rest = resting.is_due().then_some(TIMES.rest_after(empty, false));
         let is = (rest, resting.empty_after());
         same(&rt, (resting, is), (resting, (micros, then)));
+    }
+}
+
+/// Empty steps, and how many microseconds a server rests that tells somebody something.
+const TELLS: &[(u32, u64)] = &[
+    (0, 0),
+    (15, 0),
+    (16, 10),
+    (199, 10),
+    (200, 500),
+    (2000, 500),
+    (u32::MAX, 500),
+];
+
+#[test]
+fn who_tells_rests_for_a_short_time(rt: HostRuntime) {
+    for &(empty, micros) in TELLS {
+        same(&rt, (empty, TIMES.rest_after(empty, true)), (empty, micros));
     }
 }
 
@@ -398,11 +420,13 @@ const STEPS: &[(bool, bool, u32, Option<u64>)] = &[
     (true, false, 2, None),
     (false, false, 1, Some(20_000)),
     (true, true, 1, None),
-    (false, false, 200, Some(10)),
+    (false, false, 16, Some(0)),
+    (false, false, 184, Some(10)),
     (true, false, 5, None),
     (false, false, 1800, Some(1500)),
     (false, false, 9, Some(20_000)),
     (false, true, 1, None),
+    (false, false, 16, Some(0)),
     (false, false, 1, Some(10)),
 ];
 

@@ -15,9 +15,9 @@ const QUESTION: &[u8] = &[1, 6, 1, 0, 0, 0, 1];
 const RESTS: &[(bool, bool, bool, bool, Option<u64>, Option<u64>)] = &[
     (false, false, false, false, Some(20_000), Some(20_000)),
     (true, false, false, false, None, Some(20_000)),
-    (false, true, false, false, None, Some(10)),
-    (false, false, true, false, None, Some(10)),
-    (true, true, true, false, None, Some(10)),
+    (false, true, false, false, None, Some(0)),
+    (false, false, true, false, None, Some(0)),
+    (true, true, true, false, None, Some(0)),
     (false, false, false, true, None, None),
     (false, true, false, true, None, None),
 ];

@@ -102,7 +102,7 @@ const IN_VAIN: &[Step] = &[
 
 /// Two nodes ask, and then one of them tries a value.
 const ASKED: &[Step] = &[
-    (0, false, true, Call::Ask, &[SECOND_ASKS]),
+    (0, false, true, Call::Ask, &[SECOND_KNOWN, SECOND_ASKS]),
     (1, false, true, Call::Tell(2, 1), &[SECOND_ASKS, THIRD_ASKS]),
     // In the step behind a telling nobody is told.
     (2, false, true, Call::Widen, &[]),
@@ -117,6 +117,15 @@ const ASKED: &[Step] = &[
     (43, false, true, Call::Nothing, &[]),
     (45, false, true, Call::Ask, &[]),
     (46, false, true, Call::Tell(2, 1), &[]),
+];
+
+/// Nodes 2 and 3 ask a server that heard of no instance.
+const UNHEARD: &[Step] = &[
+    (0, false, true, Call::Ask, &[SECOND_ASKS, THIRD_ASKS]),
+    (1, false, true, Call::Widen, &[]),
+    (2, false, true, Call::Widen, &[SECOND_KNOWN]),
+    // Now it may have votes to tell.
+    (3, false, true, Call::Tell(2, 1), &[]),
 ];
 
 /// What node 3 asks for becomes known behind its question, in the same batch: no answer told it.
@@ -195,6 +204,17 @@ const SUBMITTED: &[Step] = &[
     (4, true, true, Call::Nothing, &[]),
     (5, false, true, Call::Nothing, &[]),
     (6, false, true, Call::Widen, &[]),
+];
+
+/// Node 2 asks a server that is asleep: the moment, what is called, the datagrams that come, and how many
+/// microseconds the server rests after that step.
+type Rest = (u64, Call, &'static [&'static [u8]], Option<u64>);
+
+const RESTS: &[Rest] = &[
+    (2, Call::Widen, &[SECOND_ASKS], None),
+    (3, Call::Tell(2, 1), &[], Some(500)),
+    (4, Call::Widen, &[], Some(500)),
+    (5, Call::Widen, &[], Some(20_000)),
 ];
 
 /// A node with its link, a desk and a pace.
@@ -304,6 +324,26 @@ fn a_tick_in_vain_makes_the_patience_longer(rt: HostRuntime) {
 #[test]
 fn who_asks_is_told_in_turn(rt: HostRuntime) {
     run(&rt, rt.alloc(), ASKED);
+}
+
+#[test]
+fn who_tells_does_not_sleep(rt: HostRuntime) {
+    let mut paced = begun(&rt, rt.alloc());
+    paced.take(&rt, &(0, false, true, Call::Ask, &[SECOND_KNOWN]));
+    paced.take(&rt, &(1, false, true, Call::Widen, &[]));
+    for _ in 0..2_000 {
+        let _ = paced.pace.rest(false, false);
+    }
+    for &(now, call, heard, rest) in RESTS {
+        paced.take(&rt, &(now, false, true, call, heard));
+        let is = paced.pace.rest(!heard.is_empty(), false);
+        same(&rt, (now, is), (now, rest));
+    }
+}
+
+#[test]
+fn who_heard_of_nothing_tells_nothing(rt: HostRuntime) {
+    run(&rt, rt.alloc(), UNHEARD);
 }
 
 #[test]

@@ -31,9 +31,9 @@ returns-clause-due g c = λ s h.
     ∙ ap (λ (p : Pace). called p now seen.known due c.call.result) c.next_telling-telling.ensures.same
     ∙ ap (λ (p : Pace). called (record p { questions = asked }) now seen.known due c.call.result) was in
     let same : c.call.new.self.questions ≡ asked = ap (λ (p : Pace). p.questions) after in
-    let told : IsTelling old c.args.node.now.cluster s now seen.known (old.told || goes_first due) telling asked =
-    subst (λ (p : Pace). IsTelling p c.args.node.now.cluster s now seen.known (p.told || goes_first due) telling asked) was
-    (subst (λ w. IsTelling mid c.args.node.now.cluster s now seen.known w telling asked) c.tells_nobody-waits.ensures (c.next_telling-telling.ensures.told s h)) in
+    let told : IsTelling old c.args.node.now.cluster s now seen (old.told || goes_first due) telling asked =
+    subst (λ (p : Pace). IsTelling p c.args.node.now.cluster s now seen (p.told || goes_first due) telling asked) was
+    (subst (λ w. IsTelling mid c.args.node.now.cluster s now seen w telling asked) c.tells_nobody-waits.ensures (c.next_telling-telling.ensures.told s h)) in
     record {
       seen = seen;
       tries = tries;
@@ -43,7 +43,7 @@ returns-clause-due g c = λ s h.
       is_seen = c.of-seen.ensures s h;
       is_tried = c.first_tried_by-tries.ensures s h;
       is_block = c.next_block-block.ensures;
-      is_told = subst (λ q. IsTelling old c.args.node.now.cluster s now seen.known (old.told || goes_first due) telling q) (sym same) told;
+      is_told = subst (λ q. IsTelling old c.args.node.now.cluster s now seen (old.told || goes_first due) telling q) (sym same) told;
       is_due = record { fresh = is.fresh; kept = is.kept; told = refl; question = is.question; tick = is.tick; answered = is.answered; goes_on = is.goes_on; waits = is.waits; yields = is.yields };
       is_called = c.call.ensures.called;
       after = subst (λ q. c.call.new.self ≡ record (pace_after old now seen tries due c.call.result) { questions = q }) (sym same) after;
