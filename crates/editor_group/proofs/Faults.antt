@@ -1,10 +1,14 @@
 -- A fault of a part is one of the whole.
-use Rattle.std.proofs.Common.{◌≡◌, ◌⊎◌, inr, ℕ, List, slice_get, Option, Some}
+use Rattle.std.proofs.Common.{◌≡◌, ¬◌, ◌⊎◌, inl, inr, ℕ, List, slice_get, Option, Some}
 use Rattle.editor_common.specs.Faults.{IsOfTalk}
 use Rattle.editor_common.specs.declared.editor_fault.EditorFault.{EditorFault}
 use Rattle.editor_common.specs.declared.editor_fault.EditorFault.TheVariants.{Write, Stop, NoNodes, Clock, OutOfMemory}
-use Rattle.editor_group.specs.Confirming.{IsOfGroup, Refuses}
+use Rattle.editor_group.specs.Confirming.{EndsAsking, EndsConfirming, Refuses, Stands, waited_for}
 use Rattle.editor_group.specs.Delivering.{EndsDelivery, EndsExchange, IsOfNode}
+use Rattle.editor_ledger.specs.Books.{Book}
+use Rattle.editor_plan.specs.Standings.{last_ticket, last_shown}
+use Rattle.editor_plan.specs.declared.standing.Standing.{Standing}
+use Rattle.editor_plan.specs.declared.standing.Standing.TheVariants.{Newest}
 use Rattle.editor_group.specs.declared.address.Address.{Address}
 use Rattle.editor_group.specs.declared.group.Group.{Group}
 
@@ -29,13 +33,20 @@ talk_ends_delivery patience group _ is = absurd is
 
 -- ---- a confirmation
 
-pub talk_of_group : (why : EditorFault) → IsOfTalk why → IsOfGroup why
-talk_of_group Write is = tt
-talk_of_group Clock is = tt
-talk_of_group OutOfMemory is = tt
-talk_of_group _ is = absurd is
+pub talk_ends_asking : (why : EditorFault) → IsOfTalk why → EndsAsking why
+talk_ends_asking Write is = tt
+talk_ends_asking Clock is = tt
+talk_ends_asking OutOfMemory is = tt
+talk_ends_asking _ is = absurd is
 
-pub refusal_of_group : (folder : List ℕ) (waited : Option ℕ) (why : EditorFault) → Refuses folder waited why → IsOfGroup why
-refusal_of_group folder waited (Stop words) is = tt
-refusal_of_group folder waited OutOfMemory is = tt
-refusal_of_group folder waited _ is = absurd is
+pub asking_ends_confirming : (n : ℕ) (folder : List ℕ) (patience : ℕ) (book : Book) (why : EditorFault) → EndsAsking why → EndsConfirming n folder patience book why
+asking_ends_confirming n folder patience book (Stop words) is = inl is
+asking_ends_confirming n folder patience book Write is = tt
+asking_ends_confirming n folder patience book Clock is = tt
+asking_ends_confirming n folder patience book OutOfMemory is = tt
+asking_ends_confirming n folder patience book _ is = absurd is
+
+pub refusal_ends_confirming : (n : ℕ) (folder : List ℕ) (patience : ℕ) (book : Book) (found : Standing) (why : EditorFault) → Stands n (last_ticket book) (last_shown book) found → ¬ (found ≡ Newest) → Refuses folder (waited_for patience found) why → EndsConfirming n folder patience book why
+refusal_ends_confirming n folder patience book found (Stop words) stands older is = inr (found, stands, older, is)
+refusal_ends_confirming n folder patience book found OutOfMemory stands older is = tt
+refusal_ends_confirming n folder patience book found _ stands older is = absurd is

@@ -1,5 +1,5 @@
 -- What a group may say of a ledger.
-use Rattle.std.specs.Prelude.{◌≡◌, ⊤, ℕ, List, length, ◌++◌, codes, decimal, string_bytes, Option, Some, None}
+use Rattle.std.specs.Prelude.{◌≡◌, ¬◌, ◌⊎◌, ⊤, ℕ, List, length, ◌++◌, codes, decimal, string_bytes, Option, Some, None}
 use Rattle.editor_common.specs.declared.editor_fault.EditorFault.{EditorFault}
 use Rattle.editor_common.specs.declared.editor_fault.EditorFault.TheVariants.{Write, Stop, Clock, OutOfMemory}
 use Rattle.editor_ledger.specs.Books.{Book}
@@ -7,6 +7,8 @@ use Rattle.editor_plan.specs.Standings.{last_ticket, last_shown, standing_of}
 use Rattle.editor_plan.specs.declared.standing.Standing.{Standing}
 use Rattle.editor_plan.specs.declared.standing.Standing.TheVariants.{Newest, Older, Elsewhere, Returning, Unanswered}
 use Rattle.editor_plan.specs.declared.standing.Witness.{Witness}
+use Rattle.editor_group.specs.declared.judging.Look.{Look}
+use Rattle.editor_group.specs.declared.judging.Look.TheVariants.{Confirmed, Silent, Refused}
 
 -- so many nodes were asked, and by what they said a ledger stands so: this was the last ticket that has its
 -- receipt, and that the newest release that was shown of its folder
@@ -39,12 +41,43 @@ Refuses folder waited (Stop words) = SaysWhy folder waited (string_bytes words)
 Refuses folder waited OutOfMemory = ⊤
 Refuses folder waited _ = ⊥
 
+-- ---- what a dry run sees of it
+
+-- a standing is shown as it is: a ledger that is not the newest is refused, and nothing was waited for
+abbrev pub Shows : List ℕ → Standing → Look → Type 0
+Shows folder Newest look = look ≡ Confirmed
+Shows folder Unanswered look = look ≡ Silent
+Shows folder _ (Refused why) = Refuses folder None why
+Shows folder _ _ = ⊥
+
+abbrev pub LooksSo : ℕ → List ℕ → Book → Look → Type 0
+LooksSo n folder book look =
+    (found : Standing) × Stands n (last_ticket book) (last_shown book) found × Shows folder found look
+
 -- ---- why a group is asked no further
 
--- it is refused, which words say; or a line could not be written, the clock not read, or an allocation failed
-abbrev pub IsOfGroup : EditorFault → Type 0
-IsOfGroup (Stop words) = ⊤
-IsOfGroup Write = ⊤
-IsOfGroup Clock = ⊤
-IsOfGroup OutOfMemory = ⊤
-IsOfGroup _ = ⊥
+-- a node keeps this client out
+abbrev pub says_nothing_sent : List ℕ
+says_nothing_sent = codes "nothing was sent"
+
+-- or a line could not be written, the clock not read, or an allocation failed
+abbrev pub EndsAsking : EditorFault → Type 0
+EndsAsking (Stop words) = string_bytes words ≡ says_nothing_sent
+EndsAsking Write = ⊤
+EndsAsking Clock = ⊤
+EndsAsking OutOfMemory = ⊤
+EndsAsking _ = ⊥
+
+-- the words say how the ledger stands, which is not the newest
+abbrev pub SaysStanding : ℕ → List ℕ → ℕ → Book → List ℕ → Type 0
+SaysStanding n folder patience book words =
+    (found : Standing) × Stands n (last_ticket book) (last_shown book) found × (¬ (found ≡ Newest))
+    × SaysWhy folder (waited_for patience found) words
+
+abbrev pub EndsConfirming : ℕ → List ℕ → ℕ → Book → EditorFault → Type 0
+EndsConfirming n folder patience book (Stop words) =
+    (string_bytes words ≡ says_nothing_sent) ⊎ SaysStanding n folder patience book (string_bytes words)
+EndsConfirming n folder patience book Write = ⊤
+EndsConfirming n folder patience book Clock = ⊤
+EndsConfirming n folder patience book OutOfMemory = ⊤
+EndsConfirming n folder patience book _ = ⊥

@@ -1,4 +1,7 @@
 //! Questions to a node over one connection.
+
+ghost use Rattle.std.specs.Prelude.{◌≤◌, ◌+◌, length, vec_len, IfOk};
+
 use crate::address::Address;
 use editor_http::{Authority, NodeAnswer, NodeAnswerFault, Question, read_answer};
 use engine_common::Feed;
@@ -109,7 +112,9 @@ pub(crate) fn read_answers(
     stream: &TcpStream,
     count: usize,
     answers: &mut Vec<NodeAnswer>,
-) -> Result<(), AllocError> {
+) -> Result<(), AllocError>
+    ensures { vec_len answers.new ≤ vec_len answers.old + count }
+{
     let mut reader = Counted::new(stream);
     let mut feed = Feed::new(alloc);
     for _ in 0..count {
@@ -121,14 +126,16 @@ pub(crate) fn read_answers(
     Ok(())
 }
 
-/// Asks over a connection. What was written is answered also where the rest could not be written.
+/// Asks over a connection. What was written is answered also if the rest could not be written.
 fn converse(
     alloc: Global,
     stream: &TcpStream,
     to: &Authority,
     questions: &[Question<'_>],
     answers: &mut Vec<NodeAnswer>,
-) -> Result<(), AllocError> {
+) -> Result<(), AllocError>
+    ensures { vec_len answers.new ≤ vec_len answers.old + length questions.now }
+{
     write_questions(alloc, stream, to, questions)?;
     read_answers(alloc, stream, questions.len(), answers)
 }
@@ -143,7 +150,9 @@ fn ask_once<N: Net<Stream = TcpStream>>(
     questions: &[Question<'_>],
     millis: u64,
     answers: &mut Vec<NodeAnswer>,
-) -> Result<(), AllocError> {
+) -> Result<(), AllocError>
+    ensures { vec_len answers.new ≤ vec_len answers.old + length questions.now }
+{
     match connect_waiting(net, to.host.as_str(), millis) {
         Ok(stream) => converse(alloc, &stream, to, questions, answers),
         Err(fault) if fault.kind() == io::ErrorKind::OutOfMemory => Err(AllocError),
@@ -159,19 +168,23 @@ fn ask_all<N: Net<Stream = TcpStream>>(
     questions: &[Question<'_>],
     millis: u64,
     answers: &mut Vec<NodeAnswer>,
-) -> Result<(), AllocError> {
-    let mut asked: usize = 0;
-    for some in questions.chunks(QUESTIONS) {
+) -> Result<(), AllocError>
+    ensures { vec_len answers.new ≤ vec_len answers.old + length questions.now }
+{
+    let mut left = questions;
+    while !left.is_empty() {
+        let (some, others) = left.split_at(left.len().min(QUESTIONS));
+        let before = answers.len();
         ask_once(net, alloc, to, some, millis, answers)?;
-        asked = some.len().saturating_add(asked);
-        if answers.len() < asked {
+        if answers.len() - before < some.len() {
             break;
         }
+        left = others;
     }
     Ok(())
 }
 
-/// The answers of a node to questions, in their order: fewer than these where it is silent for so many
+/// The answers of a node to questions, in their order: fewer than these if it is silent for so many
 /// milliseconds.
 pub(crate) fn ask_within<N: Net<Stream = TcpStream>>(
     net: &N,
@@ -179,19 +192,24 @@ pub(crate) fn ask_within<N: Net<Stream = TcpStream>>(
     node: &Address,
     questions: &[Question<'_>],
     millis: u64,
-) -> Result<Vec<NodeAnswer>, AllocError> {
+) -> Result<Vec<NodeAnswer>, AllocError>
+    ensures { IfOk result (λ answers. vec_len answers ≤ length questions.now) }
+{
     let mut answers = Vec::new(alloc);
     ask_all(net, alloc, &node.authority, questions, millis, &mut answers)?;
     Ok(answers)
 }
 
-/// The answers of a node to questions, in their order: fewer than these where it falls silent.
+/// The answers of a node to questions, in their order: fewer than these if it falls silent. No clause can say
+/// what a node answers.
 pub fn ask<N: Net<Stream = TcpStream>>(
     net: &N,
     alloc: Global,
     node: &Address,
     questions: &[Question<'_>],
-) -> Result<Vec<NodeAnswer>, AllocError> {
+) -> Result<Vec<NodeAnswer>, AllocError>
+    ensures { IfOk result (λ answers. vec_len answers ≤ length questions.now) }
+{
     ask_within(net, alloc, node, questions, WAITING)
 }
 
@@ -203,7 +221,8 @@ pub(crate) fn number_in(answer: &NodeAnswer) -> Option<u64> {
     str::from_utf8(&answer.body).ok()?.trim_end().parse().ok()
 }
 
-/// The number of a node's newest release; nothing where it doesn't say.
+/// The number of a node's newest release; nothing if the node does not say. No clause can say what a node
+/// answers.
 pub fn newest<N: Net<Stream = TcpStream>>(
     net: &N,
     alloc: Global,

@@ -2,7 +2,8 @@
 ghost use Rattle.std.specs.Prelude.{◌≡◌, ◌<◌, ◌∷◌, [], length, vec_len, false, IfErr, IfOk, OnOk, string_bytes};
 ghost use Rattle.editor_common.specs.Faults.{IsOfTalk};
 ghost use Rattle.editor_plan.specs.Standings.{last_shown as shown_last, last_ticket as ticket_last};
-ghost use Rattle.editor_group.specs.Confirming.{IsConfirmed, IsOfGroup, Refuses, SaysWhy, Stands, waited_for};
+ghost use Rattle.editor_group.specs.Confirming.{EndsAsking, EndsConfirming, IsConfirmed, LooksSo, Refuses};
+ghost use Rattle.editor_group.specs.Confirming.{SaysWhy, Stands, waited_for};
 
 use crate::address::Address;
 use crate::asking::number_in;
@@ -206,7 +207,7 @@ fn why_silent(alloc: Global, said: &Said<'_>) -> Result<String, AllocError> {
 
 /// Why nothing is waited for.
 fn nothing_sent(alloc: Global) -> EditorFault
-    ensures { IsOfGroup result }
+    ensures { EndsAsking result }
 {
     match String::from_str(alloc, "nothing was sent") {
         Ok(words) => EditorFault::Stop(words),
@@ -215,13 +216,13 @@ fn nothing_sent(alloc: Global) -> EditorFault
 }
 
 /// Tells why no node answers. If one keeps this client out nothing is waited for.
-#[tactic(auto, using(crate::proofs::Faults::talk_of_group))]
+#[tactic(auto, using(crate::proofs::Faults::talk_ends_asking))]
 fn tell_unanswered<E: Write>(
     alloc: Global,
     err: &mut E,
     all: &[Said<'_>],
 ) -> Result<(), EditorFault>
-    ensures faults { IfErr result IsOfGroup }
+    ensures faults { IfErr result EndsAsking }
 {
     let mut barred = false;
     for said in all {
@@ -250,7 +251,7 @@ fn tell_waited<E: Write>(alloc: Global, err: &mut E, all: &[Said<'_>]) -> Result
 }
 
 /// Tells what kept questions from being answered, the first time that nodes were asked.
-#[tactic(auto, using(crate::proofs::Faults::talk_of_group))]
+#[tactic(auto, using(crate::proofs::Faults::talk_ends_asking))]
 fn tell_first<E: Write>(
     alloc: Global,
     err: &mut E,
@@ -258,7 +259,7 @@ fn tell_first<E: Write>(
     found: Standing,
     times: u64,
 ) -> Result<(), EditorFault>
-    ensures faults { IfErr result IsOfGroup }
+    ensures faults { IfErr result EndsAsking }
 {
     if times != 0 || all.is_empty() {
         return Ok(());
@@ -279,7 +280,7 @@ struct Found {
 
 /// Asks all nodes at once, which were asked so many times before and have so many milliseconds to answer, and
 /// tells the first time what keeps some from answering.
-#[tactic(auto, using(crate::proofs::Faults::talk_of_group))]
+#[tactic(auto, using(crate::proofs::Faults::talk_ends_asking))]
 fn ask_group<R: Net<Stream = TcpStream> + Clock + AllocGlobal, E: Write>(
     rt: &R,
     err: &mut E,
@@ -290,7 +291,7 @@ fn ask_group<R: Net<Stream = TcpStream> + Clock + AllocGlobal, E: Write>(
 ) -> Result<Found, EditorFault>
     ensures is { IfOk result (λ found.
         Stands (length group.now.nodes.items) claim.last claim.shown found.standing) }
-    ensures faults { IfErr result IsOfGroup }
+    ensures faults { IfErr result EndsAsking }
 {
     let alloc = rt.alloc();
     let nodes: Vec<&Address> = group.nodes().iter().collect(alloc)?;
@@ -341,7 +342,7 @@ fn is_final(passed: u64, patience: u64, found: Standing) -> bool
 }
 
 /// How a ledger stands to a group once it is confirmed or refused, or so many seconds have passed.
-#[tactic(auto, using(crate::proofs::Faults::talk_of_group))]
+#[tactic(auto, using(crate::proofs::Faults::talk_ends_asking))]
 fn settled<R: Net<Stream = TcpStream> + Clock + AllocGlobal, E: Write>(
     rt: &R,
     err: &mut E,
@@ -352,7 +353,7 @@ fn settled<R: Net<Stream = TcpStream> + Clock + AllocGlobal, E: Write>(
 ) -> Result<Standing, EditorFault>
     ensures stands { IfOk result (Stands (length group.old.nodes.items) claim.last claim.shown) }
     ensures nodes { group.new.nodes ≡ group.old.nodes }
-    ensures faults { IfErr result IsOfGroup }
+    ensures faults { IfErr result EndsAsking }
 {
     let since = now(rt)?;
     for times in 0..u64::MAX {
@@ -376,7 +377,7 @@ pub enum Look {
     /// A node confirms that it is the newest of its editor.
     Confirmed,
     /// No node answers.
-    Unanswered,
+    Silent,
     /// A publication would be refused, unless this changes.
     Refused(EditorFault),
 }
@@ -390,23 +391,23 @@ pub fn look_at<R: Net<Stream = TcpStream> + Clock + AllocGlobal, E: Write>(
     group: &mut Group,
     ledger: &Ledger,
 ) -> Result<Look, EditorFault>
-    ensures confirmed { IfOk result (λ look. look ≡ Look.Confirmed → IsConfirmed (length group.old.nodes.items) ledger.now) }
+    ensures looks { IfOk result (LooksSo (length group.old.nodes.items) folder.now ledger.now) }
     ensures nodes { group.new.nodes ≡ group.old.nodes }
-    ensures faults { IfErr result IsOfGroup }
+    ensures faults { IfErr result EndsAsking }
 {
     let claim = claim_of(ledger);
     let Found { standing, first } = ask_group(rt, err, group, claim, 0, FIRST_ANSWERS)?;
     group.speak_to(first);
     Ok(match standing {
         Standing::Newest => Look::Confirmed,
-        Standing::Unanswered => Look::Unanswered,
+        Standing::Unanswered => Look::Silent,
         found => Look::Refused(refused(rt.alloc(), folder, claim, found, None)),
     })
 }
 
 /// Asks until a node confirms that a folder's ledger is the newest of its editor, which is spoken to from
 /// then on; or one says that there is a newer one, or so many seconds have passed: then it is refused.
-#[tactic(auto, using(crate::proofs::Faults::refusal_of_group))]
+#[tactic(auto, using(crate::proofs::Faults::asking_ends_confirming, crate::proofs::Faults::refusal_ends_confirming))]
 pub fn confirm<R: Net<Stream = TcpStream> + Clock + AllocGlobal, E: Write>(
     rt: &R,
     err: &mut E,
@@ -417,7 +418,8 @@ pub fn confirm<R: Net<Stream = TcpStream> + Clock + AllocGlobal, E: Write>(
 ) -> Result<(), EditorFault>
     ensures confirmed { OnOk result (IsConfirmed (length group.old.nodes.items) ledger.now) }
     ensures nodes { group.new.nodes ≡ group.old.nodes }
-    ensures faults { IfErr result IsOfGroup }
+    ensures faults { IfErr result
+        (EndsConfirming (length group.old.nodes.items) folder.now patience ledger.now) }
 {
     let claim = claim_of(ledger);
     match settled(rt, err, folder, group, claim, patience)? {

@@ -338,7 +338,7 @@ impl<R: Files + Net<Stream = TcpStream> + Clock + AllocGlobal, E: Write> Publish
         }
         match look_at(self.rt, self.err, self.how.folder, self.group, self.ledger)? {
             Look::Confirmed => self.tell_paths(out, wanted),
-            Look::Unanswered => Ok(None),
+            Look::Silent => Ok(None),
             Look::Refused(why) => {
                 *refused = Some(why);
                 Ok(None)
