@@ -18,17 +18,32 @@ const MANY: &[bool] = &[
     false, true, false, false, false, false, false, true, false,
 ];
 
-/// A server tells the value of an instance, of a hundred bytes.
-fn told(rt: &impl Abort, alloc: Global, from: u8, instance: u32) -> Vec<u8> {
-    let mut bytes = Vec::from_slice(alloc, &[1, 7, from]).expect(rt, "memory");
+/// A message of that kind from a server, about an instance whose value has a hundred bytes: with this ballot, or
+/// with none.
+fn message(
+    rt: &impl Abort,
+    alloc: Global,
+    kind: u8,
+    from: u8,
+    instance: u32,
+    ballot: &[u8],
+) -> Vec<u8> {
+    let mut bytes = Vec::from_slice(alloc, &[1, kind, from]).expect(rt, "memory");
     bytes
         .extend_from_slice(&instance.to_be_bytes())
         .expect(rt, "memory");
+    bytes.extend_from_slice(ballot).expect(rt, "memory");
     bytes
         .extend_from_slice(&100_u32.to_be_bytes())
         .expect(rt, "memory");
-    bytes.resize(111, 7).expect(rt, "memory");
+    let whole = bytes.len().saturating_add(100);
+    bytes.resize(whole, 7).expect(rt, "memory");
     bytes
+}
+
+/// A server tells the value of an instance.
+fn told(rt: &impl Abort, alloc: Global, from: u8, instance: u32) -> Vec<u8> {
+    message(rt, alloc, 7, from, instance, &[])
 }
 
 /// A server is told the first so many values.
@@ -46,16 +61,7 @@ fn learns(rt: &impl Abort, group: &mut Group, number: u8, count: u32) {
     same(rt, (number, server.served.node.known()), (number, count));
 }
 
-/// A group of so many servers, of which the last knows nothing, and the others so many values.
-fn all_but_the_last(rt: &impl Abort, alloc: Global, size: u8, known: u32) -> Group {
-    let mut group = Group::new(rt, alloc, size);
-    for number in 1..size {
-        learns(rt, &mut group, number, known);
-    }
-    group
-}
-
-/// Such a group over a bad network.
+/// A group of so many servers over a bad network, of which the last knows nothing.
 fn behind(
     rt: &impl Abort,
     alloc: Global,
@@ -64,7 +70,10 @@ fn behind(
     loses: &'static [bool],
     away: &'static [u8],
 ) -> Far {
-    let group = all_but_the_last(rt, alloc, size, KNOWN);
+    let mut group = Group::new(rt, alloc, size);
+    for number in 1..size {
+        learns(rt, &mut group, number, KNOWN);
+    }
     Far::new(group, takes, 1, loses, away)
 }
 
@@ -109,6 +118,31 @@ fn a_server_catches_up_in_time(rt: HostRuntime) {
     }
 }
 
+/// Node 1's first ballot.
+const FIRST: &[u8] = &[0, 0, 0, 1, 1];
+
+/// A server votes for the first so many values, and hears that a majority of so many servers did.
+fn votes(rt: &impl Abort, group: &mut Group, number: u8, count: u32, size: u8) {
+    let (alloc, now) = (group.alloc, group.now);
+    let server = group.server(rt, number);
+    for instance in 1..=count {
+        let proposal = message(rt, alloc, 3, 1, instance, FIRST);
+        server
+            .mail
+            .take_in(proposal.as_slice(), now)
+            .expect(rt, "memory");
+        for from in 1..=size / 2 + 1 {
+            let vote = message(rt, alloc, 4, from, instance, FIRST);
+            server
+                .mail
+                .take_in(vote.as_slice(), now)
+                .expect(rt, "memory");
+        }
+    }
+    ensure(rt, turn(server, now).is_ok(), number);
+    same(rt, (number, server.served.node.known()), (number, count));
+}
+
 /// How many servers there are, how many milliseconds a letter takes, how many lie between passes, how many values
 /// all but the last one know; and after how many milliseconds each shows the release that was submitted to the
 /// last one, at most.
@@ -121,7 +155,10 @@ const PENDING: &[Pending] = &[
 ];
 
 fn decides(rt: &impl Abort, alloc: Global, &(size, takes, step, known, bound): &Pending) {
-    let group = all_but_the_last(rt, alloc, size, known);
+    let mut group = Group::new(rt, alloc, size);
+    for number in 1..size {
+        votes(rt, &mut group, number, known, size);
+    }
     let mut far = Far::new(group, takes, step, &[], &[]);
     let value = release(rt, alloc, size);
     far.submit(rt, size, &value);
