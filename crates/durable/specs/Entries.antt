@@ -87,7 +87,8 @@ abbrev pub reach_of : List Entry → ℕ
 reach_of [] = 0
 reach_of (e ∷ es) = max (reach_in e) (reach_of es)
 
--- the entry promises this ballot at the instance. Where a higher one is promised there, it raises nothing
+-- The entry has a promise to this ballot at the instance, or a vote at it. The node's promise there is the
+-- greatest such ballot of all entries
 abbrev pub Raises : Entry → ℕ → BallotOf → Type 0
 Raises (Round r) i b = ⊥
 Raises (Promised j c) i b = (j ≡ i) × (c ≡ b)

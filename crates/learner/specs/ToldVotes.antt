@@ -15,7 +15,7 @@ pub record ToldVote : Type 0 where
 abbrev pub told_vote : ℕ → ℕ → BallotOf → List ℕ → ToldVote
 told_vote p i b v = record { voter = p; instance = i; ballot = b; value = v }
 
--- a majority voted for v at instance i and ballot b. (IsVote says which votes there are; for those of a list
--- xs it is In xs.)
+-- a majority voted for v at instance i and ballot b. `IsVote` says which votes there are; of a list xs these
+-- are `In xs`
 abbrev pub HasMajority : ℕ → (ToldVote → Type 0) → ℕ → BallotOf → List ℕ → Type 0
 HasMajority n IsVote i b v = (ps : List ℕ) × Majority n ps × ((p : ℕ) → In ps p → IsVote (told_vote p i b v))

@@ -35,7 +35,8 @@ abbrev pub shown : Option (List ℕ) → Page
 shown None = in_place 500 (codes "page over limit\n")
 shown (Some t) = in_place 200 t
 
--- a template's text over data, in the site that the commands leave. A text without a tree is never put
+-- A template's text over data, in the site that the commands leave. A text without a tree is never there: the
+-- command that puts it is refused
 abbrev pub rendered : List Order → Result Tree TemplateFault → Whole → Page
 rendered orders (Ok tree) d = shown (rendering (λ name. partial_at name orders) tree d)
 rendered orders (Err f) d = no_template

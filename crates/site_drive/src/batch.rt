@@ -1,7 +1,7 @@
 //! A batch: all that a node does with what came is on the disk together, before anything that it hands out is
 //! given away.
 //!
-//! A batch that isn't begun is given up: some bytes are missing, which ends a server anywhere.
+//! If there is no memory to begin a batch, the batch is given up, and the server ends.
 
 ghost use Rattle.std.specs.Prelude.{◌≡◌, ◌⊎◌, ◌≤◌, [], Bool, true, length, IfOk, IfErr, IsErrOf, OnOk, OnErr};
 ghost use Rattle.node.specs.Standing.{IsNodeOf, StaysOnDisk, KeepsOthers, CountsDevice, failures};

@@ -41,7 +41,8 @@ abbrev pub WorkIsCalls : Type 0
 WorkIsCalls = (last : LastCall) (n p : ℕ) (came : List (List ℕ)) (s next : Node)
     → HasWorked last n p came s next → (out : List (To × Message)) × AreCalls n p came out s next
 
--- a step, its submissions among the calls: each message that they hand out is a letter
+-- A step: the calls of its batch and its submissions are calls of the node. Its letters are the messages that
+-- these hand out
 abbrev pub StepIsCalls : Type 0
 StepIsCalls = (n p : ℕ) (came : List (List ℕ)) (letters : List (To
     × List ℕ)) (fed : List (List ℕ)) (s next : Node) → TakesStep n p came letters fed s next
