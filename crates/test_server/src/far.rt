@@ -144,13 +144,7 @@ impl Far {
 
     /// After how many milliseconds each of so many servers shows so many releases; more than the bound where
     /// some does not within it.
-    pub(crate) fn shows(
-        &mut self,
-        rt: &impl Abort,
-        size: u8,
-        releases: u64,
-        bound: u64,
-    ) -> u64 {
+    pub(crate) fn shows(&mut self, rt: &impl Abort, size: u8, releases: u64, bound: u64) -> u64 {
         let since = self.group.now;
         for _ in 0..=bound / self.step.max(1) {
             if self.fewest(rt, size) == releases {
