@@ -149,7 +149,7 @@ fn votes(rt: &impl Abort, group: &mut Group, number: u8, count: u32, size: u8) {
 type Pending = (u8, u64, u64, u32, u64);
 
 const PENDING: &[Pending] = &[
-    (3, 10, 1, 640, 1_000),
+    (3, 10, 1, 640, 1_500),
     (3, 10, 1, 3_000, 3_000),
     (9, 50, 50, 3_000, 15_000),
 ];

@@ -73,11 +73,12 @@ pub(crate) fn reopened(
     served(alloc, cluster, me, disk)
 }
 
-/// A pass of a server: it hears its clients, takes a step, and tells them.
+/// A pass of a server: it hears its clients, takes a step, tells them, and learns how long it would rest.
 pub(crate) fn turn(server: &mut Boxed, now: u64) -> Result<(), ServerFault> {
-    server.seats.read_each(now)?;
-    server.step(now)?;
-    server.seats.write_each(now);
+    let came = server.seats.read_each(now)?;
+    let stepped = server.step(now)?;
+    let went = server.seats.write_each(now);
+    let _ = server.rest(stepped, came || went);
     Ok(())
 }
 
