@@ -9,7 +9,7 @@ root=$(pwd -P)
 
 # takes down what a process has used by now: PID
 look() {
-    local words=() stat=() line name at
+    local words=() stat=() line name=0 at
     read -r line < "/proc/$1/stat" || return 0
     read -ra stat <<< "${line##*) }"
     [ "${#stat[@]}" -gt 19 ] || return 0
