@@ -103,13 +103,18 @@ pub record TakesIn (old : Questions) (times : Times) (now : ℕ) (new : Question
 abbrev pub told_count : ℕ → ℕ → ℕ → ℕ
 told_count known i count = if nat_le i known then min count (known - i + 1) else count
 
+-- there may be votes to tell: its node asked for the next instance or for a later one, and the furthest instance
+-- of which anything was heard is no earlier
+abbrev pub may_have_votes : Course → ℕ → Bool
+may_have_votes course furthest = nat_le course.next course.first && nat_le course.next furthest
+
 -- what stands of node p, on that course
 pub record StandsSo (q : Questions) (teller : Teller) (s : Node) (p : ℕ) (course : Course)
     (telling : Telling) : Type 0 where
   pub full : IsTrue telling.full ↔ IsFull s course.next
   pub asked : telling.asked ≡ course.asked
   pub known : telling.known ≡ nat_le course.next teller.known
-  pub votes : telling.votes ≡ (nat_le course.next course.first && nat_le course.next teller.furthest)
+  pub votes : telling.votes ≡ may_have_votes course teller.furthest
   pub calm : telling.calm ≡ teller.calm
   pub turn : IsTrue telling.turn ↔ HasTurn q.present.at teller.times teller.at p teller.me course.repeats
 

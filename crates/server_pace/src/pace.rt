@@ -11,7 +11,7 @@ ghost use Rattle.server_pace.specs.Keeping.{keeping_after, owed_at, IsNextBlock}
 ghost use Rattle.server_pace.specs.Pacing.{answers_after, called, empty_after, first_pace, heard, noticed};
 ghost use Rattle.server_pace.specs.Pacing.{pace_after, question_after, resting_of, ticking_after, IsAnswered};
 ghost use Rattle.server_pace.specs.Pacing.{CallsDue, HearsBatch, IsDue, IsFresh, IsTelling, IsUntried};
-ghost use Rattle.server_pace.specs.Pacing.{IsYielding};
+ghost use Rattle.server_pace.specs.Pacing.{IsYielding, teller_of};
 ghost use Rattle.server_times.specs.Timing.{rest_after};
 ghost use Rattle.server_pace.specs.Turns.{call_behind, goes_first, is_telling};
 
@@ -141,6 +141,20 @@ impl Pace {
         self.told || due.goes_first()
     }
 
+    /// As it tells others.
+    fn teller(&self, now: u64, seen: Seen) -> Teller
+        ensures { result ≡ teller_of self.now now seen }
+    {
+        Teller {
+            times: self.times,
+            at: now,
+            me: self.me,
+            known: seen.known,
+            furthest: seen.reached.max(self.recorded),
+            calm: !self.last.tried,
+        }
+    }
+
     /// The next telling, unless it waits.
     fn next_telling<D: Disk>(
         &mut self,
@@ -156,14 +170,7 @@ impl Pace {
         if waits {
             return None;
         }
-        let teller = Teller {
-            times: self.times,
-            at: now,
-            me: self.me,
-            known: seen.known,
-            furthest: seen.reached.max(self.recorded),
-            calm: !self.last.tried,
-        };
+        let teller = self.teller(now, seen);
         self.questions.next(&teller, node)
     }
 

@@ -11,6 +11,7 @@ ghost use Rattle.server_pace.specs.Courses.{course_after};
 ghost use Rattle.server_pace.specs.Places.{number_behind};
 ghost use Rattle.server_pace.specs.Questioning.{newer, no_questions, told_count, told_so, AreAsked};
 ghost use Rattle.server_pace.specs.Questioning.{AreOnCourse, IsDueTo, IsFirstDue, IsFull, IsNextTo};
+ghost use Rattle.server_pace.specs.Questioning.{may_have_votes};
 ghost use Rattle.server_pace.specs.Questioning.{NobodyIsDue, StandsSo, TakesIn, TellsNext};
 
 use crate::asking::Telling;
@@ -138,6 +139,14 @@ fn courses_after(
     all
 }
 
+/// Whether there may be votes to tell of a course's next instance: its node asked for it or for a later one, and
+/// the furthest instance of which anything was heard is no earlier.
+fn may_have_votes(course: Course, furthest: u32) -> bool
+    ensures { result ≡ may_have_votes course furthest }
+{
+    course.next <= course.first && course.next <= furthest
+}
+
 impl Questions {
     /// None was heard, at this node.
     pub(crate) fn new(me: NodeId) -> Questions
@@ -186,7 +195,7 @@ impl Questions {
             full: is_full(node, first),
             asked: course.asked,
             known: course.next <= teller.known,
-            votes: course.next <= course.first && course.next <= teller.furthest,
+            votes: may_have_votes(course, teller.furthest),
             calm: teller.calm,
             turn: self
                 .present
