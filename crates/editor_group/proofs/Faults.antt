@@ -1,5 +1,5 @@
 -- A fault of a part is one of the whole.
-use Rattle.std.proofs.Common.{◌≡◌, ¬◌, ◌⊎◌, inl, inr, ℕ, List, slice_get, Option, Some}
+use Rattle.std.proofs.Common.{◌≡◌, ◌⊎◌, inl, inr, ℕ, List, slice_get, Option, Some}
 use Rattle.editor_common.specs.Faults.{IsOfTalk}
 use Rattle.editor_common.specs.declared.editor_fault.EditorFault.{EditorFault}
 use Rattle.editor_common.specs.declared.editor_fault.EditorFault.TheVariants.{Write, Stop, NoNodes, Clock, OutOfMemory}

@@ -1,5 +1,5 @@
 -- What a group may say of a ledger.
-use Rattle.std.specs.Prelude.{◌≡◌, ¬◌, ◌⊎◌, ⊤, ℕ, List, length, ◌++◌, codes, decimal, string_bytes, Option, Some, None}
+use Rattle.std.specs.Prelude.{◌≡◌, ◌⊎◌, ⊤, ℕ, List, length, ◌++◌, codes, decimal, string_bytes, Option, Some, None}
 use Rattle.editor_common.specs.declared.editor_fault.EditorFault.{EditorFault}
 use Rattle.editor_common.specs.declared.editor_fault.EditorFault.TheVariants.{Write, Stop, Clock, OutOfMemory}
 use Rattle.editor_ledger.specs.Books.{Book}

@@ -1,7 +1,4 @@
 //! Questions to a node over one connection.
-
-ghost use Rattle.std.specs.Prelude.{◌≤◌, ◌+◌, length, vec_len, IfOk};
-
 use crate::address::Address;
 use editor_http::{Authority, NodeAnswer, NodeAnswerFault, Question, read_answer};
 use engine_common::Feed;
@@ -112,9 +109,7 @@ pub(crate) fn read_answers(
     stream: &TcpStream,
     count: usize,
     answers: &mut Vec<NodeAnswer>,
-) -> Result<(), AllocError>
-    ensures { vec_len answers.new ≤ vec_len answers.old + count }
-{
+) -> Result<(), AllocError> {
     let mut reader = Counted::new(stream);
     let mut feed = Feed::new(alloc);
     for _ in 0..count {
@@ -126,16 +121,14 @@ pub(crate) fn read_answers(
     Ok(())
 }
 
-/// Asks over a connection. What was written is answered also if the rest could not be written.
+/// Asks over a connection. What was written is answered also where the rest could not be written.
 fn converse(
     alloc: Global,
     stream: &TcpStream,
     to: &Authority,
     questions: &[Question<'_>],
     answers: &mut Vec<NodeAnswer>,
-) -> Result<(), AllocError>
-    ensures { vec_len answers.new ≤ vec_len answers.old + length questions.now }
-{
+) -> Result<(), AllocError> {
     write_questions(alloc, stream, to, questions)?;
     read_answers(alloc, stream, questions.len(), answers)
 }
@@ -150,9 +143,7 @@ fn ask_once<N: Net<Stream = TcpStream>>(
     questions: &[Question<'_>],
     millis: u64,
     answers: &mut Vec<NodeAnswer>,
-) -> Result<(), AllocError>
-    ensures { vec_len answers.new ≤ vec_len answers.old + length questions.now }
-{
+) -> Result<(), AllocError> {
     match connect_waiting(net, to.host.as_str(), millis) {
         Ok(stream) => converse(alloc, &stream, to, questions, answers),
         Err(fault) if fault.kind() == io::ErrorKind::OutOfMemory => Err(AllocError),
@@ -168,23 +159,19 @@ fn ask_all<N: Net<Stream = TcpStream>>(
     questions: &[Question<'_>],
     millis: u64,
     answers: &mut Vec<NodeAnswer>,
-) -> Result<(), AllocError>
-    ensures { vec_len answers.new ≤ vec_len answers.old + length questions.now }
-{
-    let mut left = questions;
-    while !left.is_empty() {
-        let (some, others) = left.split_at(left.len().min(QUESTIONS));
-        let before = answers.len();
+) -> Result<(), AllocError> {
+    let mut asked: usize = 0;
+    for some in questions.chunks(QUESTIONS) {
         ask_once(net, alloc, to, some, millis, answers)?;
-        if answers.len() - before < some.len() {
+        asked = some.len().saturating_add(asked);
+        if answers.len() < asked {
             break;
         }
-        left = others;
     }
     Ok(())
 }
 
-/// The answers of a node to questions, in their order: fewer than these if it is silent for so many
+/// The answers of a node to questions, in their order: fewer than these where it is silent for so many
 /// milliseconds.
 pub(crate) fn ask_within<N: Net<Stream = TcpStream>>(
     net: &N,
@@ -192,9 +179,7 @@ pub(crate) fn ask_within<N: Net<Stream = TcpStream>>(
     node: &Address,
     questions: &[Question<'_>],
     millis: u64,
-) -> Result<Vec<NodeAnswer>, AllocError>
-    ensures { IfOk result (λ answers. vec_len answers ≤ length questions.now) }
-{
+) -> Result<Vec<NodeAnswer>, AllocError> {
     let mut answers = Vec::new(alloc);
     ask_all(net, alloc, &node.authority, questions, millis, &mut answers)?;
     Ok(answers)
@@ -207,9 +192,7 @@ pub fn ask<N: Net<Stream = TcpStream>>(
     alloc: Global,
     node: &Address,
     questions: &[Question<'_>],
-) -> Result<Vec<NodeAnswer>, AllocError>
-    ensures { IfOk result (λ answers. vec_len answers ≤ length questions.now) }
-{
+) -> Result<Vec<NodeAnswer>, AllocError> {
     ask_within(net, alloc, node, questions, WAITING)
 }
 
@@ -221,8 +204,7 @@ pub(crate) fn number_in(answer: &NodeAnswer) -> Option<u64> {
     str::from_utf8(&answer.body).ok()?.trim_end().parse().ok()
 }
 
-/// The number of a node's newest release; nothing if the node does not say. No clause can say what a node
-/// answers.
+/// The number of a node's newest release; nothing if the node does not say.
 pub fn newest<N: Net<Stream = TcpStream>>(
     net: &N,
     alloc: Global,
