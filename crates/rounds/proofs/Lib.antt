@@ -1,0 +1,4 @@
+pub mod Elsewhere
+pub mod Passing
+pub mod Delivering
+pub mod Calling

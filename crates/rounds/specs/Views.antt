@@ -1,0 +1,4 @@
+-- scratch
+use Rattle.std.specs.Prelude.{ℕ}
+abbrev pub nothing : ℕ
+nothing = 0
