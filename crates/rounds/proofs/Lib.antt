@@ -2,3 +2,8 @@ pub mod Elsewhere
 pub mod Passing
 pub mod Delivering
 pub mod Calling
+pub mod Besides
+pub mod Holding
+pub mod Answering
+pub mod Acting
+pub mod Promising
