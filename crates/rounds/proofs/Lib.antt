@@ -7,3 +7,4 @@ pub mod Holding
 pub mod Answering
 pub mod Acting
 pub mod Promising
+pub mod Counting

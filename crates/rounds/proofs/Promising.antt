@@ -117,22 +117,22 @@ module _ (n p : ℕ) (values : List Value) (b : BallotOf) (v : Value) where
     there a c answers = subst (λ l. In l r) (sym (ap senders answers ∙ pushed a)) (in_right (senders a.answers) (r ∷ []) r (inl refl))
 
     not_counted : (a : Attempt) (l : List (To × Message)) → IsAsking a → IsOpenOr a l → ¬ Counts a r b → In (senders a.answers) r ⊎ In l x0
-    not_counted a l h open not =
+    not_counted a l h left not =
         ⊎_elim
         (λ x. ⊎_elim (λ (k : In (senders a.answers) r). inl k) (λ (apart : ¬ In (senders a.answers) r). absurd (not (h.ballot, x.0, apart))) (in_or_not (senders a.answers) r))
         (λ k. inr k)
-        open
+        left
 
     takes : (f after : ℕ → Option Attempt) (a : Attempt) (l : List (To × Message)) (o : Option Value) → f i ≡ Some a → IsAsking a → IsOpenOr a l → TakesPromise n f r i b None after o → IsTaken a r l after o
-    takes f after a l None at h open step =
+    takes f after a l None at h left step =
         ⊎_elim
         (λ (x : ((c : Attempt) → f i ≡ Some c → ¬ Counts c r b) × (after ≡ f)). record {
           next = a;
           at = ap (λ (g : ℕ → Option Attempt). g i) x.1 ∙ at;
           asking = h;
           grows = λ y k. k;
-          how = inl (refl, open);
-          here = not_counted a l h open (x.0 a at);
+          how = inl (refl, left);
+          here = not_counted a l h left (x.0 a at);
         })
         (λ x.
         let e : x.0 ≡ a = inside_attempt x.0 a (sym x.1 ∙ at) in
@@ -147,7 +147,7 @@ module _ (n p : ℕ) (values : List Value) (b : BallotOf) (v : Value) where
           here = inl (there a (waiting a r None) refl);
         })
         step
-    takes f after a l (Some u) at h open step =
+    takes f after a l (Some u) at h left step =
         let e : step.0 ≡ a = inside_attempt step.0 a (sym step.1 ∙ at) in
         let counts : Counts a r b = subst (λ c. Counts c r b) e step.2 in
         let chosen : Chooses a.own (more a) u = subst (λ c. Chooses c.own (more c) u) e step.4 in
@@ -173,7 +173,7 @@ module _ (n p : ℕ) (values : List Value) (b : BallotOf) (v : Value) where
     pub attempt : Attempt
     pub at : s.attempts i ≡ Some attempt
     pub asking : IsAsking attempt
-    pub open : IsOpenOr attempt l
+    pub left : IsOpenOr attempt l
 
   abbrev pub Holds : Node → List (To × Message) → Type 0
   Holds s l = Clean s × Asks s l × AreAll IsAnswer l
@@ -186,14 +186,14 @@ module _ (n p : ℕ) (values : List Value) (b : BallotOf) (v : Value) where
   Heard r s l = ((a : Attempt) → s.attempts i ≡ Some a → In (senders a.answers) r) ⊎ In l x0
 
   open_more : (a : Attempt) (before out : List (To × Message)) → IsOpenOr a before → IsOpenOr a (before ++ out)
-  open_more a before out open = ⊎_elim (λ x. inl x) (λ k. inr (in_left before out x0 k)) open
+  open_more a before out left = ⊎_elim (λ x. inl x) (λ k. inr (in_left before out x0 k)) left
 
   on_aside : (s t : Node) (before out : List (To × Message)) (m : Message) → Holds s before → IsMessage n m → IsElsewhere i m → EndsWhole n p s (deliver m) out t → Holds t (before ++ out) × (t.attempts i ≡ s.attempts i)
   on_aside s t before out m h is aside ends =
       let a = h.1.attempt in
       let next = quiet_held n p values (IsThis b) IsNoVote (Some a) s t out m (record { clean = h.0; busy = h.1.at }) is aside ends in
       (
-        (next.0.clean, record { attempt = a; at = next.0.busy; asking = h.1.asking; open = open_more a before out h.1.open }, all_out IsAnswer before out ends.effect ends.handed_out h.2 (λ x k. inl (next.1.out x k))),
+        (next.0.clean, record { attempt = a; at = next.0.busy; asking = h.1.asking; left = open_more a before out h.1.left }, all_out IsAnswer before out ends.effect ends.handed_out h.2 (λ x k. inl (next.1.out x k))),
         next.0.busy ∙ sym h.1.at,
       )
 
@@ -212,7 +212,7 @@ module _ (n p : ℕ) (values : List Value) (b : BallotOf) (v : Value) where
   on_promised : (r : ℕ) → IsNode n r → (s t : Node) (before out : List (To × Message)) → Holds s before → EndsWhole n p s (deliver (Promise r i b None)) out t → OnPromised r s t before (before ++ out)
   on_promised r node s t before out h ends =
       let how : OnPromise n p (record s { reached = max s.reached i }) r i b None ends.effect = ends.does in
-      let taken = takes r node s.attempts how.attempts h.1.attempt before how.proposed h.1.at h.1.asking h.1.open how.step in
+      let taken = takes r node s.attempts how.attempts h.1.attempt before how.proposed h.1.at h.1.asking h.1.left how.step in
       let begins = subst (BeginsKnown values) ends.node (beginning_stays n p s t (deliver (Promise r i b None)) Whole out ends values h.0.begins) in
       let clean : Clean (recorded s ends.effect) = clean_on values (IsThis b) IsNoVote s ends.effect h.0 (fair_none i (IsThis b) IsNoVote ends.effect.entry (ap (λ (x : Effect). x.entry) how.is)) begins
       (ap (λ (x : Effect). x.after.known i) how.is ∙ h.0.unknown) in
@@ -230,7 +230,7 @@ module _ (n p : ℕ) (values : List Value) (b : BallotOf) (v : Value) where
             attempt = taken.next;
             at = at;
             asking = taken.asking;
-            open = ⊎_elim (λ (y : (how.proposed ≡ None) × IsOpenOr taken.next before). open_more taken.next before out y.1) (λ y. inr (now y)) taken.how;
+            left = ⊎_elim (λ (y : (how.proposed ≡ None) × IsOpenOr taken.next before). open_more taken.next before out y.1) (λ y. inr (now y)) taken.how;
           },
           all_both IsAnswer before out h.2 (λ x k. inr (sym (said x k))),
         );
@@ -275,13 +275,13 @@ module _ (n p : ℕ) (values : List Value) (b : BallotOf) (v : Value) where
       (λ u w before more h ends. (on_promised r (all.1.nodes r k) u w before more h ends).heard)
       came s t malformed [] out d.1 allowed taken (clean, asks, all_none IsAnswer) in
       ⊎_elim
-      (λ (open : (held.1.attempt.proposal ≡ None) × (¬ Majority n (senders held.1.attempt.answers))).
+      (λ (left : (held.1.attempt.proposal ≡ None) × (¬ Majority n (senders held.1.attempt.answers))).
       ⊎_elim
       (λ (in_all : (r : ℕ) → In all.0 r → In (senders held.1.attempt.answers) r).
       let long = distinct_within all.0 (senders held.1.attempt.answers) all.1.distinct in_all in
       let enough = all.1.enough in
-      absurd (open.1 (record { distinct = held.1.asking.distinct; nodes = held.1.asking.nodes; enough = omega (arith, enough, long) })))
+      absurd (left.1 (record { distinct = held.1.asking.distinct; nodes = held.1.asking.nodes; enough = omega (arith, enough, long) })))
       (λ (k : In out x0). k)
       (all_or (λ r. In (senders held.1.attempt.answers) r) (In out x0) all.0 (λ r k. ⊎_elim (λ (f : (a : Attempt) → t.attempts i ≡ Some a → In (senders a.answers) r). inl (f held.1.attempt held.1.at)) (λ m. inr m) (heard r k))))
       (λ (k : In out x0). k)
-      held.1.open
+      held.1.left
