@@ -54,6 +54,10 @@ some_at [] k low = absurd (omega (arith, low))
 some_at (v ∷ vs) zero low = (v, refl)
 some_at (v ∷ vs) (suc k) low = some_at vs k (omega (arith, low))
 
+pub known_below : (values : List Value) (s : Node) (j : ℕ) → BeginsKnown values s → 1 ≤ j → j < suc (length values) → (v : Value) × (s.known j ≡ Some v)
+known_below values s zero begins some low = absurd (omega (arith, some))
+known_below values s (suc k) begins some low = let v = some_at values k (omega (arith, low)) in (v.0, begins k v.0 v.1)
+
 -- an unknown instance is not among those of the known values
 pub not_below : (values : List Value) (s : Node) (j : ℕ) → BeginsKnown values s → IsInstance j → s.known j ≡ None → suc (length values) ≤ j
 not_below values s zero begins instance unknown = absurd (let low = instance.0 in omega (arith, low))

@@ -108,11 +108,16 @@ module _ (n q : ℕ) (values : List Value) (Only : BallotOf → Type 0) (Mine : 
   held_on o s effect t is clean attempts none busy = subst (IsHeld o) (sym is) (record { clean = clean; busy = busy_on o s (recorded s effect) attempts none busy })
 
   -- a delivery about others
+  pub quiet_clean : (s t : Node) (out : List (To × Message)) (m : Message) → IsClean values Only Mine s → IsMessage n m → IsElsewhere i m → (ends : EndsWhole n q s (deliver m) out t) → IsClean values Only Mine (recorded s ends.effect) × IsQuietAt values Only Mine s ends.effect
+  quiet_clean s t out m clean is aside ends =
+      let quiet = aside_on values Only Mine n q s m ends.effect clean.unknown is aside ends.does in
+      let begins = subst (BeginsKnown values) ends.node (beginning_stays n q s t (deliver m) Whole out ends values clean.begins) in
+      (clean_on values Only Mine s ends.effect clean quiet.entry begins (quiet.known ∙ clean.unknown), quiet)
+
   pub quiet_held : (o : Option Attempt) (s t : Node) (out : List (To × Message)) (m : Message) → IsHeld o s → IsMessage n m → IsElsewhere i m → (ends : EndsWhole n q s (deliver m) out t) → IsHeld o t × IsQuietAt values Only Mine s ends.effect
   quiet_held o s t out m held is aside ends =
-      let quiet = aside_on values Only Mine n q s m ends.effect held.clean.unknown is aside ends.does in
-      let begins = subst (BeginsKnown values) ends.node (beginning_stays n q s t (deliver m) Whole out ends values held.clean.begins) in
-      (held_on o s ends.effect t ends.node (clean_on values Only Mine s ends.effect held.clean quiet.entry begins (quiet.known ∙ held.clean.unknown)) quiet.attempts quiet.none held.busy, quiet)
+      let next = quiet_clean s t out m held.clean is aside ends in
+      (held_on o s ends.effect t ends.node next.0 next.1.attempts next.1.none held.busy, next.1)
 
   -- and a call that is no tick
   beside_of : (o : Option Attempt) (s : Node) (call : Call) (effect : Effect) → MayBeside call → IsHeld o s → Does n q s call effect → IsBeside q values Only Mine s effect

@@ -8,3 +8,5 @@ pub mod Answering
 pub mod Acting
 pub mod Promising
 pub mod Counting
+pub mod Loosening
+pub mod Beginning
