@@ -10,3 +10,4 @@ pub mod Promising
 pub mod Counting
 pub mod Loosening
 pub mod Beginning
+pub mod Waiting
