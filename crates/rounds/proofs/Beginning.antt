@@ -30,7 +30,7 @@ use Rattle.rounds.proofs.Delivering.{AreAllowed, all_taken}
 use Rattle.rounds.proofs.Holding.{IsHeld, AreAll, all_none, all_out, all_both, IsSaid, quiet_clean, calls_held}
 use Rattle.rounds.proofs.Answering.{IsAsideOut}
 use Rattle.rounds.proofs.Acting.{IsNoVote, IsNoBallot}
-use Rattle.rounds.specs.Calm.{IsSettled}
+use Rattle.rounds.specs.Deciding.{IsSettled}
 
 no_value : (v : Value) → ◌≡◌ {A = Option Value} None (Some v) → ⊥
 no_value v e = cc

@@ -25,7 +25,7 @@ use Rattle.rounds.proofs.Elsewhere.{IsElsewhere, IsClean, clean_on, fair_none}
 use Rattle.rounds.proofs.Besides.{either}
 use Rattle.rounds.proofs.Delivering.{Keeps, AreAllowed, all_taken, brought}
 use Rattle.rounds.proofs.Holding.{IsHeld, AreAll, all_none, all_out, all_both, quiet_held}
-use Rattle.rounds.proofs.Answering.{IsAsideOut}
+use Rattle.rounds.proofs.Answering.{IsAsideOut, IsAnswer}
 use Rattle.rounds.proofs.Acting.{IsNoVote, IsThis}
 
 -- in a list or not
@@ -165,9 +165,6 @@ module _ (n p : ℕ) (values : List Value) (b : BallotOf) (v : Value) where
   abbrev Clean : Node → Type 0
   Clean s = IsClean values (IsThis b) IsNoVote s
 
-  abbrev pub IsAnswer : To × Message → Type 0
-  IsAnswer x = IsAsideOut i x ⊎ (x ≡ x0)
-
   -- such an attempt stands at the instance
   pub record Asks (s : Node) (l : List (To × Message)) : Type 0 where
     pub attempt : Attempt
@@ -176,7 +173,7 @@ module _ (n p : ℕ) (values : List Value) (b : BallotOf) (v : Value) where
     pub left : IsOpenOr attempt l
 
   abbrev pub Holds : Node → List (To × Message) → Type 0
-  Holds s l = Clean s × Asks s l × AreAll IsAnswer l
+  Holds s l = Clean s × Asks s l × AreAll (IsAnswer i x0) l
 
   abbrev pub IsPromised : Message → Type 0
   IsPromised m = IsElsewhere i m ⊎ ((r : ℕ) × IsNode n r × (m ≡ Promise r i b None))
@@ -193,7 +190,7 @@ module _ (n p : ℕ) (values : List Value) (b : BallotOf) (v : Value) where
       let a = h.1.attempt in
       let next = quiet_held n p values (IsThis b) IsNoVote (Some a) s t out m (record { clean = h.0; busy = h.1.at }) is aside ends in
       (
-        (next.0.clean, record { attempt = a; at = next.0.busy; asking = h.1.asking; left = open_more a before out h.1.left }, all_out IsAnswer before out ends.effect ends.handed_out h.2 (λ x k. inl (next.1.out x k))),
+        (next.0.clean, record { attempt = a; at = next.0.busy; asking = h.1.asking; left = open_more a before out h.1.left }, all_out (IsAnswer i x0) before out ends.effect ends.handed_out h.2 (λ x k. inl (next.1.out x k))),
         next.0.busy ∙ sym h.1.at,
       )
 
@@ -232,7 +229,7 @@ module _ (n p : ℕ) (values : List Value) (b : BallotOf) (v : Value) where
             asking = taken.asking;
             left = ⊎_elim (λ (y : (how.proposed ≡ None) × IsOpenOr taken.next before). open_more taken.next before out y.1) (λ y. inr (now y)) taken.how;
           },
-          all_both IsAnswer before out h.2 (λ x k. inr (sym (said x k))),
+          all_both (IsAnswer i x0) before out h.2 (λ x k. inr (sym (said x k))),
         );
         heard = ⊎_elim (λ k. inl (λ a is. subst (λ (c : Attempt). In (senders c.answers) r) (same a is) k)) (λ k. inr (in_left before out x0 k)) taken.here;
         grows = λ x old. ⊎_elim
@@ -261,7 +258,7 @@ module _ (n p : ℕ) (values : List Value) (b : BallotOf) (v : Value) where
       )
 
   pub promises_held : (came : List (List ℕ)) (s t : Node) (malformed : ℕ) (out : List (To × Message)) → AreAllowed n p IsPromised came → TakesEach n p came malformed out s t → Clean s → Asks s [] → Holds t out
-  promises_held came s t malformed out allowed takes clean asks = all_taken n p IsPromised Holds holds_on came s t malformed [] out allowed takes (clean, asks, all_none IsAnswer)
+  promises_held came s t malformed out allowed takes clean asks = all_taken n p IsPromised Holds holds_on came s t malformed [] out allowed takes (clean, asks, all_none (IsAnswer i x0))
 
   -- all nodes promised
   pub proposed : 1 ≤ n → (came : List (List ℕ)) (s t : Node) (malformed : ℕ) (out : List (To × Message)) → ((r : ℕ) → IsNode n r → (d : List ℕ) × In came d × Spells n d (Promise r i b None)) → AreAllowed n p IsPromised came
@@ -273,7 +270,7 @@ module _ (n p : ℕ) (values : List Value) (b : BallotOf) (v : Value) where
       let d = each r (all.1.nodes r k) in
       brought n p IsPromised Holds (Heard r) holds_on (heard_on r) d.0 (Promise r i b None) d.2
       (λ u w before more h ends. (on_promised r (all.1.nodes r k) u w before more h ends).heard)
-      came s t malformed [] out d.1 allowed taken (clean, asks, all_none IsAnswer) in
+      came s t malformed [] out d.1 allowed taken (clean, asks, all_none (IsAnswer i x0)) in
       ⊎_elim
       (λ (left : (held.1.attempt.proposal ≡ None) × (¬ Majority n (senders held.1.attempt.answers))).
       ⊎_elim
