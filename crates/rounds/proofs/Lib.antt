@@ -11,3 +11,5 @@ pub mod Counting
 pub mod Loosening
 pub mod Beginning
 pub mod Waiting
+pub mod Arriving
+pub mod Joining

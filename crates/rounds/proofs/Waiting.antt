@@ -249,16 +249,22 @@ module _ (n : ℕ) (old : Pace) (s : Node) (now : ℕ) (drained : Bool) (last : 
         subst (IsWaiting (length values) from) (sym (ticking_is ∙ ticking_kept old.times (noted old.ticking old.times now calls.seen old.stirred) now calls.due last idle))
         (noted_waits (length values) from old.ticking old.times now calls.seen old.stirred so_many low w)
 
-    -- a server that wants none does not tick
-    pub unwanted_waits : (from : ℕ) → from ≤ now → ¬ WantsTick s → IsWaiting (length values) from old.ticking → IsNoTick last × IsWaiting (length values) from mid.ticking
-    unwanted_waits from low none w =
+    -- a server that wants none does not tick, and then waits since no moment
+    pub unwanted_waits : (from : ℕ) → ¬ WantsTick s → old.ticking.known ≡ length values → old.ticking.resumes ≡ false → IsNoTick last × IsWaiting (length values) from mid.ticking
+    unwanted_waits from none known resumes =
+        let w : IsWaiting (length values) 0 old.ticking = record { known = known; resumes = resumes; since = λ a at. omega arith } in
+        let next = noted_waits (length values) 0 old.ticking old.times now calls.seen old.stirred so_many (omega arith) w in
         let wanted : calls.seen.wanted ≡ false = by_not calls.seen.wanted (λ e. none (calls.is_seen.wanted.0 e)) in
         let since = noted_unwanted old.ticking old.times now calls.seen old.stirred wanted in
         let idle = no_tick_of
         (by_not calls.due.fresh (λ e. not_true (sym wanted ∙ (calls.is_due.fresh.0 e).0.0)))
         (by_not calls.due.tick (λ e. let t = calls.is_due.tick.0 e in no_number t.0 (sym since ∙ t.1)))
-        (by_not calls.due.goes_on (λ e. not_true (sym (noted_waits (length values) from old.ticking old.times now calls.seen old.stirred so_many low w).resumes ∙ (calls.is_due.goes_on.0 e).0))) in
-        (idle, waiting_on from low w idle)
+        (by_not calls.due.goes_on (λ e. not_true (sym next.resumes ∙ (calls.is_due.goes_on.0 e).0))) in
+        let is = ticking_is ∙ ticking_kept old.times (noted old.ticking old.times now calls.seen old.stirred) now calls.due last idle in
+        (
+          idle,
+          subst (IsWaiting (length values) from) (sym is) (record { known = next.known; resumes = next.resumes; since = λ a at. absurd (no_number a (sym since ∙ at)) }),
+        )
 
     -- nor one that waits for less than its patience, and waited before or was stirred
     pub patient_waits : (from : ℕ) → from ≤ now → now - from < old.patience → IsWaiting (length values) from old.ticking → (old.ticking.since ≢ None) ⊎ (old.stirred ≡ true) → IsNoTick last × IsWaiting (length values) from mid.ticking
