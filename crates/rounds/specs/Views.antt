@@ -1,4 +1,0 @@
--- scratch
-use Rattle.std.specs.Prelude.{ℕ}
-abbrev pub nothing : ℕ
-nothing = 0
