@@ -13,3 +13,4 @@ pub mod Beginning
 pub mod Waiting
 pub mod Arriving
 pub mod Joining
+pub mod Keeping
