@@ -5,6 +5,7 @@ use Rattle.std.proofs.lemmas.Bool.Decides.{nat_tests}
 use Rattle.byteorder.specs.Endian.{big_bytes, big_number}
 use Rattle.site_ids.specs.Ids.{BallotOf, IsInstance, IsNode}
 use Rattle.site_ids.specs.Lists.{In}
+use Rattle.site_ids.proofs.MemberLemmas.{in_left, in_right}
 use Rattle.wire.specs.declared.message.Message.{Message}
 use Rattle.wire.specs.declared.message.Message.TheVariants.{Prepare, Promise, Propose, Accepted}
 use Rattle.wire.specs.Messages.{kind_of, instance_of, sender_of, IsMessage}
@@ -21,7 +22,7 @@ use Rattle.rounds.specs.Rounds.{Server, Group, Steps, IsRound}
 use Rattle.rounds.proofs.Elsewhere.{IsAside, IsElsewhere, IsLow}
 use Rattle.rounds.proofs.Passing.{low_of}
 use Rattle.rounds.proofs.Delivering.{AreAllowed}
-use Rattle.rounds.proofs.Counting.{IsBlank}
+use Rattle.rounds.proofs.Holding.{AreAll, all_both}
 
 -- ---- letters
 
@@ -143,3 +144,19 @@ module _ (n d : ℕ) (g h : Group) (round : IsRound n d g h) where
   waits_for q r here node x k e =
       let step = round.steps r node in
       round.arrive q r (spelled x.1) here node (subst (λ l. In (own_of q l) (spelled x.1)) (sym step.letters_are) (in_own q step.out x k e))
+
+  abbrev step : (q : ℕ) (here : IsNode n q) → Steps n q (g q) (h q) (round.letters q)
+  step q here = round.steps q here
+
+  pub later : (q : ℕ) (here : IsNode n q) → (g q).now ≤ (h q).now
+  later q here = let c = (round.clocks q here).0 in omega (arith, c)
+
+  -- both parts of what a step hands out
+  pub both_parts : (Says : To × Message → Type 0) (q : ℕ) (here : IsNode n q) → AreAll Says (step q here).batch.works.first → AreAll Says (step q here).batch.works.then → AreAll Says (step q here).out
+  both_parts Says q here a b = let w = (step q here).batch.works in subst (AreAll Says) (sym w.out_is) (all_both Says w.first w.then a b)
+
+  pub in_first : (q : ℕ) (here : IsNode n q) (x : To × Message) → In (step q here).batch.works.first x → In (step q here).out x
+  in_first q here x k = let w = (step q here).batch.works in subst (λ l. In l x) (sym w.out_is) (in_left w.first w.then x k)
+
+  pub in_then : (q : ℕ) (here : IsNode n q) (x : To × Message) → In (step q here).batch.works.then x → In (step q here).out x
+  in_then q here x k = let w = (step q here).batch.works in subst (λ l. In l x) (sym w.out_is) (in_right w.first w.then x k)

@@ -12,5 +12,7 @@ pub mod Loosening
 pub mod Beginning
 pub mod Waiting
 pub mod Arriving
+pub mod Stages
+pub mod Opening
 pub mod Joining
 pub mod Keeping
