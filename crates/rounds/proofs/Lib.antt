@@ -16,3 +16,5 @@ pub mod Stages
 pub mod Opening
 pub mod Joining
 pub mod Keeping
+pub mod Starting
+pub mod Coding

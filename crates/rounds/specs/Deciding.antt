@@ -1,5 +1,6 @@
 -- That rounds decide.
-use Rattle.std.specs.Prelude.{◌≡◌, ◌≢◌, ◌⊎◌, ℕ, suc, ◌*◌, ◌<◌, ◌≤◌, false, Some, None, List, [], ◌∷◌, length}
+use Rattle.std.specs.Prelude.{◌≡◌, ◌≢◌, ◌⊎◌, ℕ, suc, ◌*◌, ◌<◌, ◌≤◌, nat_eq, if◌then◌else◌, false, Some, None}
+use Rattle.std.specs.Prelude.{List, [], ◌∷◌, length}
 use Rattle.site_ids.specs.Ids.{IsInstance, IsNode}
 use Rattle.site_ids.specs.Lists.{In}
 use Rattle.site_ids.specs.NodeSets.{no_nodes}
@@ -7,8 +8,10 @@ use Rattle.wire.specs.declared.message.Message.{Message}
 use Rattle.wire.specs.Decoding.{Spells}
 use Rattle.wire.specs.Messages.{kind_of, instance_of}
 use Rattle.durable.specs.Entries.{IsPromise, learned_at}
-use Rattle.node.specs.Nodes.{Value, Node, IsMute, IsKnownPrefix}
+use Rattle.node.specs.Nodes.{Value, Up, Node, IsMute, IsKnownPrefix, opened}
 use Rattle.server_pace.specs.declared.pace.Pace.{Pace}
+use Rattle.server_pace.specs.Pacing.{first_pace}
+use Rattle.server_times.specs.declared.times.Times.{Times}
 use Rattle.rounds.specs.Rounds.{Group, AreRounds}
 
 -- A node at which nothing is going on: it knows these values without a gap, and counted none after them.
@@ -50,6 +53,20 @@ pub record IsCalm (n p : ℕ) (values pending : List Value) (g : Group) : Type 0
   pub pending_else : (q : ℕ) → IsNode n q → q ≢ p → (g q).node.pending ≡ []
   pub settled : (q : ℕ) (bytes : List ℕ) (m : Message) → IsNode n q → In (g q).waits bytes → Spells n bytes m
       → IsSettled (suc (length values)) m
+
+-- a group that begins over empty records, with these values pending at p alone
+abbrev pub begun_group : (ℕ → Times) → ℕ → ℕ → List Value → Group
+begun_group times n p pending q = record {
+  node = record (opened Up [] None) { pending = if nat_eq q p then pending else [] };
+  pace = first_pace (times q) n q 0;
+  waits = [];
+  now = 0;
+}
+
+-- it is calm, so the law is about some groups
+abbrev pub StartIsCalm : Type 0
+StartIsCalm = (n p : ℕ) (times : ℕ → Times) (pending : List Value) → IsNode n p
+    → IsCalm n p [] pending (begun_group times n p pending)
 
 -- Two rounds take less than each patience. Then after five rounds every server knows the oldest pending value:
 -- a tick, promises, a proposal, votes, and that they are a majority's
