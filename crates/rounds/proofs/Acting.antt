@@ -1,9 +1,8 @@
 -- What the messages of the attempt at the instance do: its prepare and its proposal.
-use Rattle.std.proofs.Common.{◌≡◌, ◌≢◌, ◌⊎◌, inl, inr, ⊎_elim, ℕ, suc, max, Bool, true, false, cond, Option, Some, None, List, [], ◌∷◌, ◌++◌, length, refl, sym, ap, subst, ◌∙◌, arith}
+use Rattle.std.proofs.Common.{◌≡◌, inl, inr, ⊎_elim, ℕ, suc, max, true, cond, Option, Some, None, List, [], ◌∷◌, length, refl, sym, ap, subst, ◌∙◌, arith}
 use Rattle.std.specs.Prelude.{nat_eq}
 use Rattle.std.proofs.lemmas.Bool.Decides.{nat_tests}
 use Rattle.site_ids.specs.Ids.{BallotOf, Below, NotAbove}
-use Rattle.site_ids.specs.Lists.{In}
 use Rattle.site_ids.specs.Spans.{last_of}
 use Rattle.site_ids.specs.declared.value.Vote.{Vote}
 use Rattle.site_ids.proofs.BallotLemmas.{not_itself}
@@ -12,7 +11,7 @@ use Rattle.wire.specs.declared.message.Message.TheVariants.{Prepare, Promise, Pr
 use Rattle.acceptor.specs.declared.slot.Slot.{Slot}
 use Rattle.acceptor.specs.Judging.{IsVotedAt, IsVotedFor}
 use Rattle.acceptor.specs.Steps.{Answer, promise, accepted, nack, no_answer, proposal, Steps}
-use Rattle.durable.specs.Entries.{Entry, Promised, Voted, Raises, last_vote, IsPromise, IsSlot}
+use Rattle.durable.specs.Entries.{Entry, Promised, Voted, last_vote, IsPromise, IsSlot}
 use Rattle.proposer.specs.Attempts.{Attempt}
 use Rattle.node.specs.declared.to.To.{To}
 use Rattle.node.specs.declared.to.To.TheVariants.{One, All}
@@ -84,8 +83,7 @@ module _ (n q p : ℕ) (values : List Value) (b : BallotOf) where
         let begins = subst (BeginsKnown values) ends.node (beginning_stays n q s t (deliver (Prepare p i b 1)) Whole out ends values held.clean.begins) in
         let fair : IsFairOr i (IsThis b) IsNoVote ends.effect.entry =
         ⊎_elim (λ e. fair_none i (IsThis b) IsNoVote ends.effect.entry e) (λ e. fair_some i (IsThis b) IsNoVote ends.effect.entry (Promised i b) e (fair_promised i b IsNoVote)) told.entry in
-        let clean : IsClean values (IsThis b) IsNoVote (recorded s ends.effect) = clean_on values (IsThis b) IsNoVote s ends.effect held.clean fair begins (ap (λ (x : Node). x.known i) told.after ∙ held.clean.unknown) in
-        (
+        let clean : IsClean values (IsThis b) IsNoVote (recorded s ends.effect) = clean_on values (IsThis b) IsNoVote s ends.effect held.clean fair begins (ap (λ (x : Node). x.known i) told.after ∙ held.clean.unknown) in (
           held_on n q values (IsThis b) IsNoVote o s ends.effect t ends.node clean (ap (λ (x : Node). x.attempts i) told.after) (λ e. ap (λ (x : Node). x.pending) told.after ∙ e) held.busy,
           ends.handed_out ∙ told.out ∙ ap (λ x. (One x, Promise q i b told.prior) ∷ []) of ∙ ap (λ x. (One p, Promise q i b x) ∷ []) none,
         )
@@ -126,8 +124,7 @@ module _ (n q p : ℕ) (values : List Value) (b : BallotOf) where
         let yes = accepts s how.slot how.after how.answer held how.on_record how.step in
         let begins = subst (BeginsKnown values) ends.node (beginning_stays n q s t (deliver (Propose p i b v)) Whole out ends values held.clean.begins) in
         let fair : IsFairOr i (IsThis b) (IsVoteOf b v) ends.effect.entry = subst (IsFairOr i (IsThis b) (IsVoteOf b v)) (sym (ap (λ (x : Effect). x.entry) how.is)) (entry_of how.slot how.after how.entry how.records) in
-        let clean : IsClean values (IsThis b) (IsVoteOf b v) (recorded s ends.effect) = clean_on values (IsThis b) (IsVoteOf b v) s ends.effect held.clean fair begins (ap (λ (x : Effect). x.after.known i) how.is ∙ held.clean.unknown) in
-        (
+        let clean : IsClean values (IsThis b) (IsVoteOf b v) (recorded s ends.effect) = clean_on values (IsThis b) (IsVoteOf b v) s ends.effect held.clean fair begins (ap (λ (x : Effect). x.after.known i) how.is ∙ held.clean.unknown) in (
           held_on n q values (IsThis b) (IsVoteOf b v) o s ends.effect t ends.node clean (ap (λ (x : Effect). x.after.attempts i) how.is) (λ e. ap (λ (x : Effect). x.after.pending) how.is ∙ e) held.busy,
           ends.handed_out ∙ ap (λ (x : Effect). x.out) how.is ∙ ap (λ x. propose_out q i b v x) yes,
         )

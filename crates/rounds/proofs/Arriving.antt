@@ -1,7 +1,6 @@
 -- From what a step hands out to what waits before the next one.
-use Rattle.std.proofs.Common.{◌≡◌, ◌≢◌, ◌⊎◌, inl, inr, ⊎_elim, ℕ, zero, suc, ◌+◌, ◌<◌, ◌≤◌, Bool, true, false, cond, Option, Some, None, List, [], ◌∷◌, ◌++◌, length, refl, sym, ap, subst, ◌∙◌, arith}
-use Rattle.std.specs.Prelude.{◌^◌, nat_eq}
-use Rattle.std.proofs.lemmas.Bool.Decides.{nat_tests}
+use Rattle.std.proofs.Common.{◌≡◌, ◌⊎◌, inl, inr, ⊎_elim, ℕ, ◌<◌, ◌≤◌, Bool, true, false, cond, None, List, [], ◌∷◌, ◌++◌, length, refl, sym, ap, subst, ◌∙◌, arith}
+use Rattle.std.specs.Prelude.{◌^◌}
 use Rattle.byteorder.specs.Endian.{big_bytes, big_number}
 use Rattle.site_ids.specs.Ids.{BallotOf, IsInstance, IsNode}
 use Rattle.site_ids.specs.Lists.{In}
@@ -14,11 +13,10 @@ use Rattle.wire.specs.Spelling.{spelled, version_of, fields_of}
 use Rattle.wire.proofs.NumberLemmas.{number_back}
 use Rattle.wire.proofs.ReadingLemmas.{one_message}
 use Rattle.node.specs.declared.to.To.{To}
-use Rattle.node.specs.declared.to.To.TheVariants.{One, All}
 use Rattle.node.specs.Nodes.{Value}
 use Rattle.site_drive.specs.Posting.{spelled_of}
 use Rattle.server.specs.Mailing.{is_for, own_of}
-use Rattle.rounds.specs.Rounds.{Server, Group, Steps, IsRound}
+use Rattle.rounds.specs.Rounds.{Group, Steps, IsRound}
 use Rattle.rounds.proofs.Elsewhere.{IsAside, IsElsewhere, IsLow}
 use Rattle.rounds.proofs.Passing.{low_of}
 use Rattle.rounds.proofs.Delivering.{AreAllowed}

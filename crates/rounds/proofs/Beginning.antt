@@ -1,13 +1,12 @@
 -- The step in which node p begins its attempt: deliveries of what is settled, a tick, and widenings.
-use Rattle.std.proofs.Common.{◌≡◌, ◌≢◌, ◌⊎◌, inl, inr, ⊎_elim, ℕ, zero, suc, ◌+◌, ◌<◌, ◌≤◌, max, Option, Some, None, List, [], ◌∷◌, ◌++◌, length, map, refl, sym, ap, subst, ◌∙◌, arith}
-use Rattle.std.specs.Prelude.{◌^◌, ⊤}
-use Rattle.site_ids.specs.Ids.{BallotOf, IsInstance, IsNode, IsBallot}
+use Rattle.std.proofs.Common.{◌≡◌, ◌≢◌, ◌⊎◌, inl, inr, ⊎_elim, ℕ, suc, ◌<◌, ◌≤◌, max, Option, Some, None, List, [], ◌∷◌, ◌++◌, length, map, refl, sym, ap, subst, ◌∙◌, arith}
+use Rattle.std.specs.Prelude.{◌^◌}
+use Rattle.site_ids.specs.Ids.{BallotOf, IsInstance}
 use Rattle.site_ids.specs.Lists.{In}
 use Rattle.site_ids.proofs.MapLemmas.{put_here}
-use Rattle.site_ids.proofs.MemberLemmas.{in_left, in_right}
 use Rattle.wire.specs.declared.message.Message.{Message}
 use Rattle.wire.specs.declared.message.Message.TheVariants.{Prepare, Promise, Propose, Accepted, Nack, Ask, Chosen}
-use Rattle.wire.specs.Messages.{kind_of, instance_of, IsMessage}
+use Rattle.wire.specs.Messages.{IsMessage}
 use Rattle.durable.specs.Entries.{Round}
 use Rattle.proposer.specs.Attempts.{Attempt, opened, TakesPromise}
 use Rattle.learner.specs.ToldVotes.{told_vote}
@@ -25,9 +24,9 @@ use Rattle.site_drive.specs.declared.last_call.LastCall.TheVariants.{TickOrAsk, 
 use Rattle.site_drive.specs.Drives.{TicksAndWidens, EndsLast, EndsTurns}
 use Rattle.site_drive.specs.Batches.{TakesEach}
 use Rattle.rounds.proofs.Elsewhere.{IsElsewhere, IsClean, clean_on, fair_some, fair_round}
-use Rattle.rounds.proofs.Besides.{known_below, IsAsideOr}
+use Rattle.rounds.proofs.Besides.{known_below}
 use Rattle.rounds.proofs.Delivering.{AreAllowed, all_taken}
-use Rattle.rounds.proofs.Holding.{IsHeld, AreAll, all_none, all_out, all_both, IsSaid, quiet_clean, calls_held}
+use Rattle.rounds.proofs.Holding.{IsHeld, AreAll, all_none, all_out, quiet_clean, calls_held}
 use Rattle.rounds.proofs.Answering.{IsAsideOut}
 use Rattle.rounds.proofs.Acting.{IsNoVote, IsNoBallot}
 use Rattle.rounds.specs.Deciding.{IsSettled}
@@ -135,8 +134,7 @@ module _ (n p : ℕ) (values : List Value) where
       let next = quiet_clean n p values IsNoBallot IsNoVote s t out m h.0.clean is (settled_aside i m settled) ends in
       let same = idle (record s { reached = reached_by s.reached m }) m ends.effect h.0.clean.begins is settled ends.does in
       let low = settled_reach (length values) s.reached m settled h.0.reached in
-      let far : t.reached ≡ reached_by s.reached m = ap (λ (x : Node). x.reached) ends.node ∙ same.reached in
-      (
+      let far : t.reached ≡ reached_by s.reached m = ap (λ (x : Node). x.reached) ends.node ∙ same.reached in (
         record {
           clean = subst Clean (sym ends.node) next.0;
           pending_are = ap (λ (x : Node). x.pending) ends.node ∙ same.pending ∙ h.0.pending_are;

@@ -1,9 +1,8 @@
 -- What the calls after a batch's deliveries do beside a tick: they change no attempt at the instance, and put nothing about it on record.
-use Rattle.std.proofs.Common.{◌≡◌, ◌≢◌, ◌⊎◌, inl, inr, ⊎_elim, ℕ, zero, suc, ◌+◌, ◌<◌, ◌≤◌, Option, Some, None, List, [], ◌∷◌, ◌++◌, length, map, refl, sym, ap, subst, ◌∙◌, arith}
+use Rattle.std.proofs.Common.{◌≡◌, ◌≢◌, ◌⊎◌, inl, inr, ⊎_elim, ℕ, zero, suc, ◌<◌, ◌≤◌, Option, Some, None, List, [], ◌∷◌, ◌++◌, length, refl, sym, ap, subst, ◌∙◌, arith}
 use Rattle.std.specs.Prelude.{◌^◌, slice_get}
 use Rattle.site_ids.specs.Ids.{BallotOf, IsInstance}
 use Rattle.site_ids.specs.Lists.{In, put_at}
-use Rattle.site_ids.specs.Spans.{IsInSpan}
 use Rattle.site_ids.specs.declared.value.Vote.{Vote}
 use Rattle.site_ids.proofs.MapLemmas.{put_other}
 use Rattle.wire.specs.declared.message.Message.{Message}
@@ -13,9 +12,9 @@ use Rattle.proposer.specs.Attempts.{Attempt, opened, opened_span}
 use Rattle.node.specs.declared.to.To.{To}
 use Rattle.node.specs.declared.to.To.TheVariants.{All}
 use Rattle.node.specs.Nodes.{Value, Node, BeginsKnown}
-use Rattle.node.specs.Effects.{Effect, quiet, says}
-use Rattle.node.specs.Tellings.{or_else, remembered, tells, told_from, addressed}
-use Rattle.node.specs.Calls.{Begins, Widens, Asks, Keeps, KeepsOne, MayWiden, MayKeep, IsNextSpan, AreUntried, fresh_ballot}
+use Rattle.node.specs.Effects.{Effect, quiet}
+use Rattle.node.specs.Tellings.{or_else, remembered, tells}
+use Rattle.node.specs.Calls.{Begins, Widens, Asks, Keeps, KeepsOne, MayWiden, MayKeep, AreUntried, fresh_ballot}
 use Rattle.node.proofs.ToldAgain.{each_told, IsToldOf}
 use Rattle.rounds.proofs.Elsewhere.{IsElsewhere, IsLow, aside_of, IsFairOr, IsClean, fair_none, fair_some, fair_round, fair_learned}
 use Rattle.rounds.proofs.Passing.{low_of}

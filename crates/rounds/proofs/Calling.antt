@@ -1,17 +1,16 @@
 -- The calls after the deliveries of a batch: what each of them keeps.
-use Rattle.std.proofs.Common.{◌≡◌, ◌≢◌, ◌⊎◌, inl, inr, ⊎_elim, ℕ, zero, suc, ◌+◌, ◌<◌, ◌≤◌, List, [], ◌∷◌, ◌++◌, refl, sym, ap, subst, ◌∙◌, append-nil, append_assoc}
+use Rattle.std.proofs.Common.{◌≡◌, ◌≢◌, ◌⊎◌, inl, inr, ⊎_elim, ℕ, zero, suc, ◌+◌, List, [], ◌++◌, refl, sym, ap, subst, ◌∙◌, append-nil, append_assoc}
 use Rattle.std.specs.Prelude.{⊤}
 use Rattle.wire.specs.declared.message.Message.{Message}
-use Rattle.node.specs.declared.fault.NodeFault.{NodeFault}
 use Rattle.node.specs.declared.fault.NodeFault.TheVariants.{InstancesUsedUp}
 use Rattle.node.specs.declared.to.To.{To}
 use Rattle.node.specs.declared.to.To.TheVariants.{One}
 use Rattle.node.specs.Nodes.{Node, WantsTick}
-use Rattle.node.specs.Calls.{Call, submit, tick, widen, ask, tell, deliver, keep, MayWiden}
+use Rattle.node.specs.Calls.{Call, submit, tick, widen, ask, tell, deliver, keep}
 use Rattle.node.specs.Endings.{Ending, Whole, Refused, Ends, EndsWhole}
 use Rattle.site_drive.specs.declared.last_call.LastCall.{LastCall}
 use Rattle.site_drive.specs.declared.last_call.LastCall.TheVariants.{TickOrAsk, Widen, Ask, Tell, Keep, Nothing}
-use Rattle.site_drive.specs.Drives.{Begin, Widens, TicksAndWidens, TicksOrAsks, KeepAll, KeepsEach, EndsLast, EndsTurns}
+use Rattle.site_drive.specs.Drives.{Begin, Widens, TicksAndWidens, KeepAll, KeepsEach, EndsLast, EndsTurns}
 
 -- the call is one of those of the last call
 abbrev pub IsOf : LastCall → Call → Type 0
@@ -38,7 +37,6 @@ module _ (n q : ℕ) (Holds : Node → List (To × Message) → Type 0) where
   holds_still s t before out none same holds = subst (λ l. Holds t (before ++ l)) (sym none) (subst (λ l. Holds t l) (sym (append-nil before)) (subst (λ u. Holds u before) (sym same) holds))
 
   module _ (May : Call → Type 0) (keeps : (s t : Node) (before out : List (To × Message)) (call : Call) → May call → Holds s before → EndsWhole n q s call out t → Holds t (before ++ out)) where
-
     one_called : (s t : Node) (before out : List (To × Message)) (call : Call) (ending : Ending) → May call → (ending ≡ Whole) ⊎ (ending ≡ Refused InstancesUsedUp) → Ends n q s call ending out t → Holds s before → Holds t (before ++ out)
     one_called s t before out call ending may how ends holds =
         ⊎_elim

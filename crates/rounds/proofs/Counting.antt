@@ -1,21 +1,20 @@
 -- Votes in any order: when all nodes voted, the value is known.
-use Rattle.std.proofs.Common.{◌≡◌, ◌≢◌, ◌⊎◌, inl, inr, ⊎_elim, ℕ, suc, ◌≤◌, max, Bool, true, false, cond, not, Option, Some, None, List, [], ◌∷◌, ◌++◌, length, filter, refl, sym, ap, subst, ◌∙◌, arith}
+use Rattle.std.proofs.Common.{◌≡◌, ◌≢◌, ◌⊎◌, inl, inr, ⊎_elim, ℕ, suc, ◌≤◌, max, Bool, true, false, cond, not, Option, Some, None, List, [], ◌∷◌, length, filter, refl, sym, ap, subst, ◌∙◌, arith}
 use Rattle.std.specs.Prelude.{nat_eq, ⊤}
 use Rattle.std.proofs.lemmas.Bool.Decides.{nat_tests}
 use Rattle.site_ids.specs.Ids.{BallotOf, IsNode}
-use Rattle.site_ids.specs.Lists.{In, put_at}
-use Rattle.site_ids.specs.Majorities.{Majority}
+use Rattle.site_ids.specs.Lists.{In}
 use Rattle.site_ids.proofs.MapLemmas.{put_here, put_other}
 use Rattle.site_ids.proofs.MajorityLemmas.{all_are_many}
 use Rattle.wire.specs.declared.message.Message.{Message}
 use Rattle.wire.specs.declared.message.Message.TheVariants.{Prepare, Promise, Propose, Accepted, Nack, Ask, Chosen}
-use Rattle.wire.specs.Messages.{kind_of, IsMessage}
+use Rattle.wire.specs.Messages.{kind_of}
 use Rattle.wire.specs.Decoding.{Spells}
 use Rattle.learner.specs.ToldVotes.{ToldVote, told_vote, HasMajority}
 use Rattle.node.specs.declared.to.To.{To}
 use Rattle.node.specs.declared.to.To.TheVariants.{One}
 use Rattle.node.specs.Nodes.{Value, Node, IsKnown, IsUnknown, IsMute}
-use Rattle.node.specs.Effects.{Effect, quiet, says, recorded, learned}
+use Rattle.node.specs.Effects.{Effect, quiet, says, learned}
 use Rattle.node.specs.Calls.{Call, deliver}
 use Rattle.node.specs.Deliveries.{with_vote, Counted, OnAccepted, OnPrepare, OnPropose, ByKind}
 use Rattle.node.specs.Endings.{Whole, EndsWhole}
@@ -24,7 +23,7 @@ use Rattle.site_drive.specs.declared.last_call.LastCall.{LastCall}
 use Rattle.site_drive.specs.Drives.{EndsTurns}
 use Rattle.site_drive.specs.Batches.{TakesEach}
 use Rattle.rounds.proofs.Elsewhere.{IsAside, IsElsewhere, aside_apart}
-use Rattle.rounds.proofs.Delivering.{Keeps, AreAllowed, all_taken, brought}
+use Rattle.rounds.proofs.Delivering.{Keeps, AreAllowed, brought}
 use Rattle.rounds.proofs.Calling.{all_called}
 use Rattle.rounds.proofs.Promising.{all_or}
 
@@ -200,19 +199,18 @@ module _ (n q : ℕ) (values : List Value) (b : BallotOf) (v : Value) where
       allowed
 
   counts_on : (r : ℕ) → Keeps n q IsVoteOrBlank (λ s l. Holds s l × Counts r s)
-  counts_on r s t before out m h is allowed ends =
-      (
-        holds_on s t before out m h.0 is allowed ends,
+  counts_on r s t before out m h is allowed ends = (
+    holds_on s t before out m h.0 is allowed ends,
+    ⊎_elim
+        (λ (blank : IsBlank m).
+        let same = blank_on s t out m blank ends in
         ⊎_elim
-            (λ (blank : IsBlank m).
-            let same = blank_on s t out m blank ends in
-            ⊎_elim
-            (λ e. inl (same.known ∙ e))
-            (λ (y : (s.known i ≡ None) × In s.votes (vote r) × (¬ HasMajority n (In s.votes) i b v)). inr (same.known ∙ y.0, same.votes r y.1, λ many. y.2 (many.0, many.1, λ x k. same.back x (many.2 x k))))
-            h.1)
-            (λ (x : (z : ℕ) × (m ≡ Accepted z i b v)). (counted_on x.0 s t out h.0 (subst (λ y. EndsWhole n q s (deliver y) out t) x.1 ends)).grows r h.1)
-            allowed,
-      )
+        (λ e. inl (same.known ∙ e))
+        (λ (y : (s.known i ≡ None) × In s.votes (vote r) × (¬ HasMajority n (In s.votes) i b v)). inr (same.known ∙ y.0, same.votes r y.1, λ many. y.2 (many.0, many.1, λ x k. same.back x (many.2 x k))))
+        h.1)
+        (λ (x : (z : ℕ) × (m ≡ Accepted z i b v)). (counted_on x.0 s t out h.0 (subst (λ y. EndsWhole n q s (deliver y) out t) x.1 ends)).grows r h.1)
+        allowed,
+  )
 
   -- all nodes voted
   pub votes_known : 1 ≤ n → (came : List (List ℕ)) (s t : Node) (malformed : ℕ) (out : List (To × Message)) → ((r : ℕ) → IsNode n r → (d : List ℕ) × In came d × Spells n d (Accepted r i b v)) → AreAllowed n q IsVoteOrBlank came

@@ -1,5 +1,5 @@
 -- A batch in which nobody ticks: what holds of its node over deliveries about others, and over its calls.
-use Rattle.std.proofs.Common.{◌≡◌, ◌≢◌, ◌⊎◌, inl, inr, ⊎_elim, ℕ, suc, ◌≤◌, Option, Some, None, List, [], ◌∷◌, ◌++◌, length, refl, sym, ap, subst, ◌∙◌}
+use Rattle.std.proofs.Common.{◌≡◌, ⊎_elim, ℕ, suc, ◌≤◌, Option, Some, None, List, [], ◌++◌, length, refl, sym, ap, subst, ◌∙◌}
 use Rattle.std.specs.Prelude.{⊤}
 use Rattle.site_ids.specs.Ids.{BallotOf}
 use Rattle.site_ids.specs.Lists.{In}
@@ -17,7 +17,7 @@ use Rattle.node.proofs.Knowing.{beginning_stays}
 use Rattle.site_drive.specs.declared.last_call.LastCall.{LastCall}
 use Rattle.site_drive.specs.declared.last_call.LastCall.TheVariants.{TickOrAsk, Widen, Ask, Tell, Keep, Nothing}
 use Rattle.site_drive.specs.Drives.{EndsTurns}
-use Rattle.rounds.proofs.Elsewhere.{IsElsewhere, IsLow, IsClean, clean_on}
+use Rattle.rounds.proofs.Elsewhere.{IsElsewhere, IsClean, clean_on}
 use Rattle.rounds.proofs.Passing.{IsQuietAt, aside_on}
 use Rattle.rounds.proofs.Besides.{IsBusy, IsAsideOr, IsBeside, on_widen, on_ask, on_tell, on_keep}
 use Rattle.rounds.proofs.Calling.{IsOf, all_called}
@@ -132,8 +132,7 @@ module _ (n q : ℕ) (values : List Value) (Only : BallotOf → Type 0) (Mine : 
   beside_held : (o : Option Attempt) (s t : Node) (out : List (To × Message)) (call : Call) → MayBeside call → IsHeld o s → (ends : EndsWhole n q s call out t) → IsHeld o t × IsBeside q values Only Mine s ends.effect
   beside_held o s t out call may held ends =
       let beside = beside_of o s call ends.effect may held ends.does in
-      let begins = subst (BeginsKnown values) ends.node (beginning_stays n q s t call Whole out ends values held.clean.begins) in
-      (
+      let begins = subst (BeginsKnown values) ends.node (beginning_stays n q s t call Whole out ends values held.clean.begins) in (
         held_on o s ends.effect t ends.node (clean_on values Only Mine s ends.effect held.clean beside.entry begins (ap (λ f. f i) beside.known ∙ held.clean.unknown)) beside.attempts (λ e. beside.pending ∙ e) held.busy,
         beside,
       )
@@ -147,8 +146,7 @@ module _ (n q : ℕ) (values : List Value) (Only : BallotOf → Type 0) (Mine : 
   calls_held o last s t out idle low held ends =
       all_called n q (Calm o s.pending s.reached) MayBeside
       (λ u w before more call may h e.
-      let next = beside_held o u w more call may h.0 e in
-      (
+      let next = beside_held o u w more call may h.0 e in (
         next.0,
         (ap (λ (x : Node). x.pending) e.node ∙ next.1.pending ∙ h.1.0, ap (λ (x : Node). x.reached) e.node ∙ next.1.reached ∙ h.1.1),
         all_out (IsSaid q i Mine) before more e.effect e.handed_out h.2 next.1.out,

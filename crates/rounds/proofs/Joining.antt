@@ -1,6 +1,6 @@
 -- Five rounds joined: a proposal, votes, and that they are a majority's, behind a tick and promises.
 use Rattle.std.proofs.Common.{◌≡◌, ◌≢◌, ◌⊎◌, inl, inr, ⊎_elim, ℕ, suc, ◌<◌, ◌≤◌, Some, None, List, [], ◌∷◌, length, refl, sym, ap, subst, ◌∙◌, arith}
-use Rattle.std.specs.Prelude.{◌-◌, ◌*◌}
+use Rattle.std.specs.Prelude.{◌*◌}
 use Rattle.site_ids.specs.Ids.{BallotOf, IsInstance, IsNode}
 use Rattle.site_ids.specs.Lists.{In}
 use Rattle.site_ids.specs.Majorities.{Majority}
@@ -121,8 +121,7 @@ module _ (n p d : ℕ) (values rest : List Value) (v : Value) (node : IsNode n p
         let mid = promises_held n p values b v (g p).waits (g p).node w.mid st.malformed w.first allowed w.takes a.2.clean asks in
         let said = proposed n p values b v some_nodes (g p).waits (g p).node w.mid st.malformed w.first each allowed w.takes a.2.clean asks in
         let held : IsHeld n p values (IsThis b) IsNoVote (Some mid.1.attempt) w.mid = record { clean = mid.0; busy = mid.1.at } in
-        let after = calls_held n p values (IsThis b) IsNoVote (Some mid.1.attempt) st.last w.mid (h p).node w.then (no_tick p here) (low_3 p here) held w.ends in
-        (
+        let after = calls_held n p values (IsThis b) IsNoVote (Some mid.1.attempt) st.last w.mid (h p).node w.then (no_tick p here) (low_3 p here) held w.ends in (
           record {
             attempt = Some mid.1.attempt;
             held = after.0;

@@ -1,14 +1,13 @@
 -- What a server knows it still knows after any rounds.
-use Rattle.std.proofs.Common.{◌≡◌, ℕ, zero, suc, Some, List, [], ◌++◌, sym, subst}
+use Rattle.std.proofs.Common.{◌≡◌, ℕ, zero, suc, Some, List, [], sym, subst}
 use Rattle.std.specs.Prelude.{⊤}
-use Rattle.site_ids.specs.Ids.{IsNode}
 use Rattle.wire.specs.declared.message.Message.{Message}
 use Rattle.node.specs.declared.to.To.{To}
 use Rattle.node.specs.Nodes.{Value, Node}
 use Rattle.node.specs.Calls.{Call, deliver}
 use Rattle.node.specs.Endings.{Whole}
 use Rattle.node.proofs.Knowing.{known_stays}
-use Rattle.rounds.specs.Rounds.{Server, Group, Steps, AreRounds}
+use Rattle.rounds.specs.Rounds.{Server, Group, Steps}
 use Rattle.rounds.specs.Deciding.{RoundsKeep}
 use Rattle.rounds.proofs.Delivering.{all_taken}
 use Rattle.rounds.proofs.Calling.{all_called}

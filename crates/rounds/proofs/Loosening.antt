@@ -1,5 +1,5 @@
 -- The calls of a step in which a node may tick: they hand out no value and no vote for another one at the instance.
-use Rattle.std.proofs.Common.{◌≡◌, ◌⊎◌, inl, inr, ⊎_elim, ℕ, suc, ◌≤◌, Option, Some, None, List, [], ◌∷◌, ◌++◌, length, map, refl, sym, ap, subst, ◌∙◌}
+use Rattle.std.proofs.Common.{◌≡◌, ◌⊎◌, inl, inr, ⊎_elim, ℕ, suc, ◌≤◌, Option, Some, None, List, [], ◌∷◌, length, map, refl, sym, ap, subst, ◌∙◌}
 use Rattle.std.specs.Prelude.{⊤}
 use Rattle.site_ids.specs.Ids.{BallotOf}
 use Rattle.site_ids.specs.Lists.{In}
@@ -7,14 +7,14 @@ use Rattle.site_ids.specs.declared.value.Vote.{Vote}
 use Rattle.wire.specs.declared.message.Message.{Message}
 use Rattle.wire.specs.declared.message.Message.TheVariants.{Prepare}
 use Rattle.wire.specs.Messages.{kind_of}
-use Rattle.durable.specs.Entries.{Entry, Round}
+use Rattle.durable.specs.Entries.{Round}
 use Rattle.proposer.specs.Attempts.{Attempt, latest}
 use Rattle.node.specs.declared.to.To.{To}
 use Rattle.node.specs.declared.to.To.TheVariants.{All}
 use Rattle.node.specs.Nodes.{Value, Node, BeginsKnown}
-use Rattle.node.specs.Effects.{Effect, quiet, recorded}
+use Rattle.node.specs.Effects.{Effect, quiet}
 use Rattle.node.specs.Calls.{Call, submit, tick, widen, ask, tell, deliver, keep, Does, Ticks, AsksInstead, Begins, MayWiden, resent, fresh_ballot}
-use Rattle.node.specs.Endings.{Whole, EndsWhole}
+use Rattle.node.specs.Endings.{Whole}
 use Rattle.node.proofs.Knowing.{beginning_stays}
 use Rattle.site_drive.specs.declared.last_call.LastCall.{LastCall}
 use Rattle.site_drive.specs.declared.last_call.LastCall.TheVariants.{TickOrAsk, Widen, Ask, Tell, Keep, Nothing}

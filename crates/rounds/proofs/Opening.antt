@@ -142,8 +142,7 @@ module _ (n p d : ℕ) (values rest : List Value) (v : Value) (node : IsNode n p
           let taken = still_taken n p values (v ∷ rest) (g p).waits (g p).node w.mid st.malformed w.first (λ bytes m k spells. calm.settled p bytes m node k spells) w.takes still in
           let paced = fresh_ticks n (g p).pace (g p).node (h p).now st.drained st.last st.called st.calls values (prefix_of values IsNoBallot IsNoVote (g p).node still.clean) wants (calm.nodes p node).unpromised calm.fresh.none_wanted calm.fresh.still calm.fresh.none_tried (calm.paces p node).noted in
           let after = begun n p values v rest w.mid taken.0 instance (h p).node w.then (subst (λ l. EndsTurns l n p w.mid w.then (h p).node) paced.0 w.ends) in
-          let same = ticking_after n p (g p) (h p) (round.letters p) st in
-          (
+          let same = ticking_after n p (g p) (h p) (round.letters p) st in (
             after.ballot,
             record { of = after.of; round = after.round },
             record {
@@ -180,8 +179,7 @@ module _ (n p d : ℕ) (values rest : List Value) (v : Value) (node : IsNode n p
       ⊎_elim
       (λ (e : p ≡ q). at q e here first.2)
       (λ (apart : p ≢ q). other_step g h round calm b q here (λ e. apart (sym e)))
-      (either p q) in
-      (
+      (either p q) in (
         b,
         record {
           own = first.1;

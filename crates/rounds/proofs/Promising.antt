@@ -1,7 +1,7 @@
 -- Promises in any order: when all nodes promised, the attempt's own value is proposed.
-use Rattle.std.proofs.Common.{◌≡◌, ◌≢◌, ◌⊎◌, inl, inr, ⊎_elim, ℕ, suc, ◌+◌, ◌<◌, ◌≤◌, max, Option, Some, None, List, [], ◌∷◌, ◌++◌, length, refl, sym, ap, subst, ◌∙◌, arith}
+use Rattle.std.proofs.Common.{◌≡◌, ◌≢◌, ◌⊎◌, inl, inr, ⊎_elim, ℕ, suc, ◌≤◌, max, Option, Some, None, List, [], ◌∷◌, ◌++◌, length, refl, sym, ap, subst, ◌∙◌, arith}
 use Rattle.site_ids.specs.Ids.{BallotOf, IsNode}
-use Rattle.site_ids.specs.Lists.{In, Distinct, put_at}
+use Rattle.site_ids.specs.Lists.{In, Distinct}
 use Rattle.site_ids.specs.Majorities.{Majority}
 use Rattle.site_ids.specs.declared.value.Vote.{Vote}
 use Rattle.site_ids.proofs.MapLemmas.{put_here}
@@ -24,8 +24,8 @@ use Rattle.site_drive.specs.Batches.{TakesEach}
 use Rattle.rounds.proofs.Elsewhere.{IsElsewhere, IsClean, clean_on, fair_none}
 use Rattle.rounds.proofs.Besides.{either}
 use Rattle.rounds.proofs.Delivering.{Keeps, AreAllowed, all_taken, brought}
-use Rattle.rounds.proofs.Holding.{IsHeld, AreAll, all_none, all_out, all_both, quiet_held}
-use Rattle.rounds.proofs.Answering.{IsAsideOut, IsAnswer}
+use Rattle.rounds.proofs.Holding.{AreAll, all_none, all_out, all_both, quiet_held}
+use Rattle.rounds.proofs.Answering.{IsAnswer}
 use Rattle.rounds.proofs.Acting.{IsNoVote, IsThis}
 
 -- in a list or not
@@ -188,8 +188,7 @@ module _ (n p : ℕ) (values : List Value) (b : BallotOf) (v : Value) where
   on_aside : (s t : Node) (before out : List (To × Message)) (m : Message) → Holds s before → IsMessage n m → IsElsewhere i m → EndsWhole n p s (deliver m) out t → Holds t (before ++ out) × (t.attempts i ≡ s.attempts i)
   on_aside s t before out m h is aside ends =
       let a = h.1.attempt in
-      let next = quiet_held n p values (IsThis b) IsNoVote (Some a) s t out m (record { clean = h.0; busy = h.1.at }) is aside ends in
-      (
+      let next = quiet_held n p values (IsThis b) IsNoVote (Some a) s t out m (record { clean = h.0; busy = h.1.at }) is aside ends in (
         (next.0.clean, record { attempt = a; at = next.0.busy; asking = h.1.asking; left = open_more a before out h.1.left }, all_out (IsAnswer i x0) before out ends.effect ends.handed_out h.2 (λ x k. inl (next.1.out x k))),
         next.0.busy ∙ sym h.1.at,
       )
@@ -246,16 +245,15 @@ module _ (n p : ℕ) (values : List Value) (b : BallotOf) (v : Value) where
       allowed
 
   heard_on : (r : ℕ) → Keeps n p IsPromised (λ s l. Holds s l × Heard r s l)
-  heard_on r s t before out m h is allowed ends =
-      (
-        holds_on s t before out m h.0 is allowed ends,
-        ⊎_elim
-            (λ (aside : IsElsewhere i m).
-            let same = (on_aside s t before out m h.0 is aside ends).1 in
-            ⊎_elim (λ (k : (a : Attempt) → s.attempts i ≡ Some a → In (senders a.answers) r). inl (λ a e. k a (sym same ∙ e))) (λ k. inr (in_left before out x0 k)) h.1)
-            (λ (x : (q : ℕ) × IsNode n q × (m ≡ Promise q i b None)). (on_promised x.0 x.1 s t before out h.0 (subst (λ y. EndsWhole n p s (deliver y) out t) x.2 ends)).grows r h.1)
-            allowed,
-      )
+  heard_on r s t before out m h is allowed ends = (
+    holds_on s t before out m h.0 is allowed ends,
+    ⊎_elim
+        (λ (aside : IsElsewhere i m).
+        let same = (on_aside s t before out m h.0 is aside ends).1 in
+        ⊎_elim (λ (k : (a : Attempt) → s.attempts i ≡ Some a → In (senders a.answers) r). inl (λ a e. k a (sym same ∙ e))) (λ k. inr (in_left before out x0 k)) h.1)
+        (λ (x : (q : ℕ) × IsNode n q × (m ≡ Promise q i b None)). (on_promised x.0 x.1 s t before out h.0 (subst (λ y. EndsWhole n p s (deliver y) out t) x.2 ends)).grows r h.1)
+        allowed,
+  )
 
   pub promises_held : (came : List (List ℕ)) (s t : Node) (malformed : ℕ) (out : List (To × Message)) → AreAllowed n p IsPromised came → TakesEach n p came malformed out s t → Clean s → Asks s [] → Holds t out
   promises_held came s t malformed out allowed takes clean asks = all_taken n p IsPromised Holds holds_on came s t malformed [] out allowed takes (clean, asks, all_none (IsAnswer i x0))

@@ -18,7 +18,6 @@ use Rattle.rounds.proofs.Answering.{IsAsideOrIt, IsAnswer}
 use Rattle.rounds.proofs.Acting.{IsNoVote, IsVoteOf, IsNoBallot, IsThis}
 use Rattle.rounds.proofs.Counting.{IsVoteOrBlank}
 use Rattle.rounds.proofs.Loosening.{IsLoose}
-use Rattle.rounds.proofs.Beginning.{begun}
 use Rattle.rounds.proofs.Waiting.{IsWaiting}
 
 module _ (n p d : ℕ) (values : List Value) (v : Value) where

@@ -1,17 +1,15 @@
 -- Who ticks: a value that is fresh is tried at once, and nobody else ticks within the patience.
-use Rattle.std.proofs.Common.{◌≡◌, ◌≢◌, ◌⊎◌, inl, inr, ⊎_elim, ℕ, zero, suc, ◌+◌, ◌<◌, ◌≤◌, Bool, true, false, cond, Option, Some, None, List, [], ◌∷◌, length, refl, sym, ap, subst, ◌∙◌, arith}
-use Rattle.std.specs.Prelude.{◌-◌, ◌*◌, ◌^◌, ◌||◌, ◌&&◌, not, nat_eq, nat_lt, min, max, get_or, replicate, unwrap_or, slice_get, if◌then◌else◌, IsSome, ⊤}
+use Rattle.std.proofs.Common.{◌≡◌, ◌≢◌, ◌⊎◌, ⊎_elim, ℕ, zero, suc, ◌+◌, ◌<◌, ◌≤◌, Bool, true, false, cond, Option, Some, None, List, [], ◌∷◌, length, refl, sym, ap, subst, ◌∙◌, arith}
+use Rattle.std.specs.Prelude.{◌-◌, ◌*◌, ◌^◌, ◌||◌, ◌&&◌, not, nat_eq, nat_lt, min, max, get_or, replicate, unwrap_or, ⊤}
 use Rattle.std.proofs.lemmas.Bool.Decides.{nat_tests}
-use Rattle.site_ids.specs.Ids.{IsInstance}
 use Rattle.site_ids.specs.Lists.{In}
 use Rattle.site_ids.specs.NodeSets.{no_nodes}
 use Rattle.wire.specs.declared.message.Message.{Message}
 use Rattle.wire.specs.Decoding.{Spells}
 use Rattle.wire.proofs.ReadingLemmas.{one_message}
 use Rattle.durable.specs.Entries.{IsPromise}
-use Rattle.node.specs.Nodes.{Value, Node, WantsTick, IsFirstUnknown, IsKnownPrefix}
-use Rattle.node.proofs.Gaps.{one_first}
-use Rattle.site_drive.specs.Delivering.{AreNoted, IsNoted, noted as noted_more, stirs, counted_if}
+use Rattle.node.specs.Nodes.{Value, Node, WantsTick, IsKnownPrefix}
+use Rattle.site_drive.specs.Delivering.{AreNoted, noted as noted_more, stirs, counted_if}
 use Rattle.site_drive.specs.declared.delivered.Delivered.{Delivered}
 use Rattle.site_drive.specs.declared.last_call.LastCall.{LastCall}
 use Rattle.site_drive.specs.declared.last_call.LastCall.TheVariants.{TickOrAsk, Widen, Ask, Tell, Keep, Nothing}
@@ -21,7 +19,7 @@ use Rattle.server_pace.specs.declared.seen.Seen.{Seen}
 use Rattle.server_pace.specs.declared.ticking.Ticking.{Ticking}
 use Rattle.server_pace.specs.declared.yielding.Yielding.{Yielding}
 use Rattle.server_pace.specs.declared.questions.Questions.{Questions}
-use Rattle.server_pace.specs.Pacing.{noted, leaves, is_one_more, noted_tries, Ticks, GoesOn, waited, begun, Waits, IsTriedBy, ticked, ticking_after, IsTelling, CallsDue, HearsBatch}
+use Rattle.server_pace.specs.Pacing.{noted, leaves, is_one_more, noted_tries, Ticks, waited, begun, Waits, IsTriedBy, ticked, ticking_after, IsTelling, CallsDue, HearsBatch}
 use Rattle.server_pace.specs.Turns.{call_behind, keeping_or, telling_or}
 use Rattle.server_times.specs.declared.times.Times.{Times}
 use Rattle.rounds.proofs.Besides.{some_at}
@@ -260,8 +258,7 @@ module _ (n : ℕ) (old : Pace) (s : Node) (now : ℕ) (drained : Bool) (last : 
         (by_not calls.due.fresh (λ e. not_true (sym wanted ∙ (calls.is_due.fresh.0 e).0.0)))
         (by_not calls.due.tick (λ e. let t = calls.is_due.tick.0 e in no_number t.0 (sym since ∙ t.1)))
         (by_not calls.due.goes_on (λ e. not_true (sym next.resumes ∙ (calls.is_due.goes_on.0 e).0))) in
-        let is = ticking_is ∙ ticking_kept old.times (noted old.ticking old.times now calls.seen old.stirred) now calls.due last idle in
-        (
+        let is = ticking_is ∙ ticking_kept old.times (noted old.ticking old.times now calls.seen old.stirred) now calls.due last idle in (
           idle,
           subst (IsWaiting (length values) from) (sym is) (record { known = next.known; resumes = next.resumes; since = λ a at. absurd (no_number a (sym since ∙ at)) }),
         )
@@ -280,9 +277,9 @@ module _ (n : ℕ) (old : Pace) (s : Node) (now : ℕ) (drained : Bool) (last : 
     module _ (wants : WantsTick s) (untried : IsPromise s.entries (suc (length values)) None) (since : old.ticking.since ≡ None) (still : old.stirred ≡ false) (none : old.yielding.tried ≡ no_nodes) (kept : old.ticking.known ≡ length values) where
       yields_to_none : calls.due.yields ≡ false
       yields_to_none = by_not calls.due.yields (λ e.
-        let is = calls.is_due.yields.0 e in
-        let here = nobody s (suc calls.seen.known) calls.tries (subst (λ k. IsPromise s.entries (suc k) None) (sym so_many) untried) calls.is_tried in
-        waits_for_none old.yielding now old.me none (subst (λ t. Waits (noted_tries old.yielding now t) old.me) here is.0))
+          let is = calls.is_due.yields.0 e in
+          let here = nobody s (suc calls.seen.known) calls.tries (subst (λ k. IsPromise s.entries (suc k) None) (sym so_many) untried) calls.is_tried in
+          waits_for_none old.yielding now old.me none (subst (λ t. Waits (noted_tries old.yielding now t) old.me) here is.0))
 
       is_fresh : calls.due.fresh ≡ true
       is_fresh = calls.is_due.fresh.1 ((calls.is_seen.wanted.1 wants, since, still), yields_to_none)
@@ -296,8 +293,7 @@ module _ (n : ℕ) (old : Pace) (s : Node) (now : ℕ) (drained : Bool) (last : 
           let after : mid.ticking ≡ begun (noted old.ticking old.times now calls.seen old.stirred) =
           ticking_is ∙ fresh_begun old.times (noted old.ticking old.times now calls.seen old.stirred) now calls.due last is is_fresh in
           let same = same_noted old.ticking old.times now calls.seen old.stirred (so_many ∙ sym kept) in
-          let now_is : mid.ticking.since ≡ Some now = ap (λ (t : Ticking). t.since) after ∙ ap (λ (t : Ticking). t.since) same ∙ since_now (leaves old.ticking old.times now calls.seen old.stirred) in
-          (
+          let now_is : mid.ticking.since ≡ Some now = ap (λ (t : Ticking). t.since) after ∙ ap (λ (t : Ticking). t.since) same ∙ since_now (leaves old.ticking old.times now calls.seen old.stirred) in (
             is,
             λ e. no_number now (sym e ∙ now_is),
             record {
