@@ -1,5 +1,6 @@
 -- What the messages of the attempt at the instance do: its prepare and its proposal.
-use Rattle.std.proofs.Common.{◌≡◌, inl, inr, ⊎_elim, ℕ, suc, max, true, cond, Option, Some, None, List, [], ◌∷◌, length, refl, sym, ap, subst, ◌∙◌, arith}
+use Rattle.std.proofs.Common.{◌≡◌, inl, inr, ⊎_elim, ℕ, suc, max, true, cond, Option, Some, None, List, []}
+use Rattle.std.proofs.Common.{◌∷◌, length, refl, sym, ap, subst, ◌∙◌, arith}
 use Rattle.std.specs.Prelude.{nat_eq}
 use Rattle.std.proofs.lemmas.Bool.Decides.{nat_tests}
 use Rattle.site_ids.specs.Ids.{BallotOf, Below, NotAbove}
@@ -48,12 +49,23 @@ same_itself : (i : ℕ) → nat_eq i i ≡ true
 same_itself i = grind (arith, nat_tests)
 
 fair_promised : (i : ℕ) (b : BallotOf) (Mine : Vote → Type 0) → IsFair i (IsThis b) Mine (Promised i b)
-fair_promised i b Mine = record { raises = λ c h. sym h.1; votes = λ last. inl refl; learns = refl; floor = refl }
+fair_promised i b Mine = record {
+  raises = λ c h. sym h.1;
+  votes = λ last. inl refl;
+  learns = refl;
+  floor
+      = refl;
+}
 
 fair_voted : (i : ℕ) (b : BallotOf) (v : Value) → IsFair i (IsThis b) (IsVoteOf b v) (Voted i b v)
 fair_voted i b v = record {
   raises = λ c h. sym h.1;
-  votes = λ last. inr (record { ballot = b; value = v }, refl, ap (λ t. cond t (Some (record { ballot = b; value = v })) last) (same_itself i));
+  votes = λ last. inr (
+    record { ballot = b; value = v },
+    refl,
+    ap
+        (λ t. cond t (Some (record { ballot = b; value = v })) last) (same_itself i),
+  );
   learns = refl;
   floor = refl;
 }
@@ -75,17 +87,28 @@ module _ (n q p : ℕ) (values : List Value) (b : BallotOf) where
       not_mute = held.clean.not_mute;
     }
 
-    pub on_prepare : (s t : Node) (out : List (To × Message)) → Held s → EndsWhole n q s (deliver (Prepare p i b 1)) out t → Held t × (out ≡ (One p, Promise q i b None) ∷ [])
+    pub on_prepare : (s t : Node) (out : List (To × Message)) → Held s
+        → EndsWhole n q s (deliver (Prepare p i b 1)) out t → Held t
+        × (out ≡ (One p, Promise q i b None) ∷ [])
     on_prepare s t out held ends =
         let there : Node = record s { reached = max s.reached (last_of i 1) } in
-        let told : Promises q there i b ends.effect = promises q there i b ends.effect (clear s held) ends.does in
+        let told : Promises q there i b ends.effect = promises q there i b ends.effect (clear s held)
+        ends.does in
         let none : told.prior ≡ None = told.told ∙ none_voted (last_vote i s.entries) held.clean.voted in
-        let begins = subst (BeginsKnown values) ends.node (beginning_stays n q s t (deliver (Prepare p i b 1)) Whole out ends values held.clean.begins) in
+        let begins = subst (BeginsKnown values) ends.node (beginning_stays n q s t (deliver (Prepare p i b 1))
+        Whole out ends values held.clean.begins) in
         let fair : IsFairOr i (IsThis b) IsNoVote ends.effect.entry =
-        ⊎_elim (λ e. fair_none i (IsThis b) IsNoVote ends.effect.entry e) (λ e. fair_some i (IsThis b) IsNoVote ends.effect.entry (Promised i b) e (fair_promised i b IsNoVote)) told.entry in
-        let clean : IsClean values (IsThis b) IsNoVote (recorded s ends.effect) = clean_on values (IsThis b) IsNoVote s ends.effect held.clean fair begins (ap (λ (x : Node). x.known i) told.after ∙ held.clean.unknown) in (
-          held_on n q values (IsThis b) IsNoVote o s ends.effect t ends.node clean (ap (λ (x : Node). x.attempts i) told.after) (λ e. ap (λ (x : Node). x.pending) told.after ∙ e) held.busy,
-          ends.handed_out ∙ told.out ∙ ap (λ x. (One x, Promise q i b told.prior) ∷ []) of ∙ ap (λ x. (One p, Promise q i b x) ∷ []) none,
+        ⊎_elim (λ e. fair_none i (IsThis b) IsNoVote ends.effect.entry e)
+        (λ e. fair_some i (IsThis b) IsNoVote ends.effect.entry (Promised i b) e
+        (fair_promised i b IsNoVote)) told.entry in
+        let clean : IsClean values (IsThis b) IsNoVote (recorded s ends.effect) = clean_on values (IsThis b)
+        IsNoVote s ends.effect held.clean fair begins (ap (λ (x : Node). x.known i) told.after
+        ∙ held.clean.unknown) in (
+          held_on n q values (IsThis b) IsNoVote o s ends.effect t ends.node clean
+              (ap (λ (x : Node). x.attempts i) told.after) (λ e. ap (λ (x : Node). x.pending) told.after ∙ e)
+              held.busy,
+          ends.handed_out ∙ told.out ∙ ap (λ x. (One x, Promise q i b told.prior) ∷ []) of
+              ∙ ap (λ x. (One p, Promise q i b x) ∷ []) none,
         )
 
   -- ---- a proposal is voted for
@@ -100,31 +123,51 @@ module _ (n q p : ℕ) (values : List Value) (b : BallotOf) where
     raised_by : (s : Node) (c : BallotOf) → Voting s → IsPromise s.entries i (Some c) → c ≡ b
     raised_by s c held is = held.clean.raised is.0.0 c is.0.1 is.0.2
 
-    not_refused : (s : Node) (slot : Slot) (c : BallotOf) → Voting s → IsSlot s.entries i slot → slot.promised ≡ Some c → Below b c → ⊥
-    not_refused s slot c held is promised below = not_itself b (subst (Below b) (raised_by s c held (subst (IsPromise s.entries i) promised is.promise)) below)
+    not_refused : (s : Node) (slot : Slot) (c : BallotOf) → Voting s → IsSlot s.entries i slot
+        → slot.promised ≡ Some c → Below b c → ⊥
+    not_refused s slot c held is promised below = not_itself b
+        (subst (Below b) (raised_by s c held (subst (IsPromise s.entries i) promised is.promise)) below)
 
-    voted_for : (x : Option Vote) → ((w : Vote) → x ≡ Some w → IsVoteOf b v w) → IsVotedAt x b → IsVotedFor x b v
+    voted_for : (x : Option Vote) → ((w : Vote) → x ≡ Some w → IsVoteOf b v w) → IsVotedAt x b
+        → IsVotedFor x b v
     voted_for None mine at = absurd at
-    voted_for (Some w) mine at = let e = mine w refl in (ap (λ (y : Vote). y.ballot) e, ap (λ (y : Vote). y.value) e)
+    voted_for (Some w) mine at = let e = mine w refl in (
+      ap (λ (y : Vote). y.ballot) e,
+      ap
+          (λ (y : Vote). y.value) e,
+    )
 
-    accepts : (s : Node) (slot after : Slot) (answer : Answer) → Voting s → IsSlot s.entries i slot → Steps slot (proposal b v) after answer → answer ≡ accepted
+    accepts : (s : Node) (slot after : Slot) (answer : Answer) → Voting s → IsSlot s.entries i slot
+        → Steps slot (proposal b v) after answer → answer ≡ accepted
     accepts s slot after (promise prior) held is step = absurd step
     accepts s slot after accepted held is step = refl
     accepts s slot after (nack c) held is step = absurd (not_refused s slot c held is step.0.0 step.0.1)
-    accepts s slot after no_answer held is step = absurd (step.2 (voted_for slot.vote (λ w e. held.clean.voted w (sym is.vote ∙ e)) step.1))
+    accepts s slot after no_answer held is step = absurd (step.2
+        (voted_for slot.vote (λ w e. held.clean.voted w (sym is.vote ∙ e)) step.1))
 
-    entry_of : (slot after : Slot) (x : Option Entry) → Records slot after (Voted i b v) x → IsFairOr i (IsThis b) (IsVoteOf b v) x
+    entry_of : (slot after : Slot) (x : Option Entry) → Records slot after (Voted i b v) x
+        → IsFairOr i (IsThis b) (IsVoteOf b v) x
     entry_of slot after None h = fair_none i (IsThis b) (IsVoteOf b v) None refl
-    entry_of slot after (Some e) h = fair_some i (IsThis b) (IsVoteOf b v) (Some e) (Voted i b v) (ap Some h.1) (fair_voted i b v)
+    entry_of slot after (Some e) h = fair_some i (IsThis b) (IsVoteOf b v) (Some e) (Voted i b v)
+        (ap Some h.1) (fair_voted i b v)
 
-    pub on_proposal : (s t : Node) (out : List (To × Message)) → Voting s → EndsWhole n q s (deliver (Propose p i b v)) out t → Voting t × (out ≡ (All, Accepted q i b v) ∷ [])
+    pub on_proposal : (s t : Node) (out : List (To × Message)) → Voting s
+        → EndsWhole n q s (deliver (Propose p i b v)) out t → Voting t × (out ≡ (All, Accepted q i b v) ∷ [])
     on_proposal s t out held ends =
         let there : Node = record s { reached = max s.reached i } in
-        let how : OnPropose q there i b v ends.effect = heeds there i (OnPropose q there i b v ends.effect) ends.effect held.clean.not_mute ends.does in
+        let how : OnPropose q there i b v ends.effect = heeds there i (OnPropose q there i b v ends.effect)
+        ends.effect held.clean.not_mute ends.does in
         let yes = accepts s how.slot how.after how.answer held how.on_record how.step in
-        let begins = subst (BeginsKnown values) ends.node (beginning_stays n q s t (deliver (Propose p i b v)) Whole out ends values held.clean.begins) in
-        let fair : IsFairOr i (IsThis b) (IsVoteOf b v) ends.effect.entry = subst (IsFairOr i (IsThis b) (IsVoteOf b v)) (sym (ap (λ (x : Effect). x.entry) how.is)) (entry_of how.slot how.after how.entry how.records) in
-        let clean : IsClean values (IsThis b) (IsVoteOf b v) (recorded s ends.effect) = clean_on values (IsThis b) (IsVoteOf b v) s ends.effect held.clean fair begins (ap (λ (x : Effect). x.after.known i) how.is ∙ held.clean.unknown) in (
-          held_on n q values (IsThis b) (IsVoteOf b v) o s ends.effect t ends.node clean (ap (λ (x : Effect). x.after.attempts i) how.is) (λ e. ap (λ (x : Effect). x.after.pending) how.is ∙ e) held.busy,
+        let begins = subst (BeginsKnown values) ends.node (beginning_stays n q s t (deliver (Propose p i b v))
+        Whole out ends values held.clean.begins) in
+        let fair : IsFairOr i (IsThis b) (IsVoteOf b v) ends.effect.entry = subst
+        (IsFairOr i (IsThis b) (IsVoteOf b v)) (sym (ap (λ (x : Effect). x.entry) how.is))
+        (entry_of how.slot how.after how.entry how.records) in
+        let clean : IsClean values (IsThis b) (IsVoteOf b v) (recorded s ends.effect) = clean_on values
+        (IsThis b) (IsVoteOf b v) s ends.effect held.clean fair begins
+        (ap (λ (x : Effect). x.after.known i) how.is ∙ held.clean.unknown) in (
+          held_on n q values (IsThis b) (IsVoteOf b v) o s ends.effect t ends.node clean
+              (ap (λ (x : Effect). x.after.attempts i) how.is)
+              (λ e. ap (λ (x : Effect). x.after.pending) how.is ∙ e) held.busy,
           ends.handed_out ∙ ap (λ (x : Effect). x.out) how.is ∙ ap (λ x. propose_out q i b v x) yes,
         )

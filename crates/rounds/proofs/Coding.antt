@@ -5,8 +5,7 @@ use Rattle.rounds.specs.Coding.{StepsAreSteps}
 
 pub steps_are_steps : {D : Type 0} (stands_for : D → DiskState → Type 0) → StepsAreSteps stands_for
 steps_are_steps stands_for old new before after pace paced last malformed earlier now batch paces s stands =
-    let r = batch.1.leads s stands in
-    (
+    let r = batch.1.leads s stands in (
       r.0,
       r.2,
       λ waits empty. record {

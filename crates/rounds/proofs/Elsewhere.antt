@@ -1,5 +1,6 @@
--- What is about other instances: messages and entries, and a node that they leave as it is.
-use Rattle.std.proofs.Common.{◌≡◌, ◌≢◌, ◌⊎◌, inl, inr, ⊎_elim, ℕ, suc, ◌<◌, Bool, true, false, cond, Option, Some, None, List, [], ◌∷◌, length, refl, sym, ap, subst, ◌∙◌, arith}
+-- Messages and entries that are about other instances than one, and a node that knows nothing of that one.
+use Rattle.std.proofs.Common.{◌≡◌, ◌≢◌, ◌⊎◌, inl, inr, ⊎_elim, ℕ, suc, ◌<◌, Bool, true, false, cond, Option}
+use Rattle.std.proofs.Common.{Some, None, List, [], ◌∷◌, length, refl, sym, ap, subst, ◌∙◌, arith}
 use Rattle.std.specs.Prelude.{◌^◌, nat_eq}
 use Rattle.std.proofs.lemmas.Bool.Decides.{nat_tests}
 use Rattle.site_ids.specs.Ids.{BallotOf}
@@ -8,7 +9,8 @@ use Rattle.site_ids.specs.declared.value.Vote.{Vote}
 use Rattle.site_ids.proofs.MemberLemmas.{in_push}
 use Rattle.wire.specs.declared.message.Message.{Message}
 use Rattle.wire.specs.Messages.{kind_of, instance_of}
-use Rattle.durable.specs.Entries.{Entry, Round, Promised, PromisedSpan, Voted, Learned, Raises, vote_after, last_vote, learned_at, floor_of, promise_of, with_entry}
+use Rattle.durable.specs.Entries.{Entry, Round, Promised, PromisedSpan, Voted, Learned, Raises, vote_after}
+use Rattle.durable.specs.Entries.{last_vote, learned_at, floor_of, promise_of, with_entry}
 use Rattle.durable.proofs.Push.{vote_after-push, learned_at-kept, floor_of-push}
 use Rattle.node.specs.Nodes.{Value, Node, IsMute, BeginsKnown}
 use Rattle.node.specs.Effects.{Effect, recorded}
@@ -20,21 +22,26 @@ IsAside i kind j = (kind ≡ 5) ⊎ ((kind ≡ 6) ⊎ ((i < j) ⊎ ((kind ≢ 1)
 abbrev pub IsElsewhere : ℕ → Message → Type 0
 IsElsewhere i m = IsAside i (kind_of m) (instance_of m)
 
--- so many fit into the bytes of a number
+-- four bytes spell its instance
 abbrev pub IsLow : Message → Type 0
 IsLow m = instance_of m < 2 ^ 32
 
 pub aside_of : (i kind j : ℕ) → kind ≢ 1 → j ≢ i → IsAside i kind j
-aside_of i kind j other apart = inr (inr (⊎_elim (λ (x : i < j). inl x) (λ (x : j < i). inr (other, x)) (sides i j apart)))
+aside_of i kind j other apart = inr
+    (inr (⊎_elim (λ (x : i < j). inl x) (λ (x : j < i). inr (other, x)) (sides i j apart)))
   where
     sides : (i j : ℕ) → j ≢ i → (i < j) ⊎ (j < i)
     sides i j apart = grind arith
 
 pub aside_apart : (i kind j : ℕ) → kind ≢ 5 → kind ≢ 6 → IsAside i kind j → j ≢ i
-aside_apart i kind j a b h = ⊎_elim (λ x. absurd (a x)) (λ y. ⊎_elim (λ x. absurd (b x)) (λ z. ⊎_elim (λ (x : i < j) e. omega (arith, x, e)) (λ (x : (kind ≢ 1) × (j < i)) e. let low = x.1 in omega (arith, low, e)) z) y) h
+aside_apart i kind j a b h = ⊎_elim (λ x. absurd (a x)) (λ y.
+    ⊎_elim (λ x. absurd (b x)) (λ z. ⊎_elim (λ (x : i < j) e. omega (arith, x, e))
+    (λ (x : (kind ≢ 1) × (j < i)) e. let low = x.1 in omega (arith, low, e)) z) y) h
 
 pub aside_above : (i j : ℕ) → IsAside i 1 j → i < j
-aside_above i j h = ⊎_elim (λ (x : 1 ≡ 5). absurd (omega (arith, x))) (λ y. ⊎_elim (λ (x : 1 ≡ 6). absurd (omega (arith, x))) (λ z. ⊎_elim (λ (x : i < j). x) (λ (x : (1 ≢ 1) × (j < i)). absurd (x.0 refl)) z) y) h
+aside_above i j h = ⊎_elim (λ (x : 1 ≡ 5). absurd (omega (arith, x)))
+    (λ y. ⊎_elim (λ (x : 1 ≡ 6). absurd (omega (arith, x))) (λ z.
+    ⊎_elim (λ (x : i < j). x) (λ (x : (1 ≢ 1) × (j < i)). absurd (x.0 refl)) z) y) h
 
 inside_entry : (a b : Entry) → Some a ≡ Some b → a ≡ b
 inside_entry a b e = cc
@@ -44,10 +51,11 @@ no_entry a e = cc
 
 -- ---- an entry
 
--- it raises only such ballots at the instance, and leaves the last vote there or puts such a one
+-- it raises only such ballots at the instance. It leaves the last vote there, or puts such a vote
 pub record IsFair (i : ℕ) (Only : BallotOf → Type 0) (Mine : Vote → Type 0) (e : Entry) : Type 0 where
   pub raises : (c : BallotOf) → Raises e i c → Only c
-  pub votes : (last : Option Vote) → (vote_after i last (e ∷ []) ≡ last) ⊎ ((w : Vote) × Mine w × (vote_after i last (e ∷ []) ≡ Some w))
+  pub votes : (last : Option Vote) → (vote_after i last (e ∷ []) ≡ last)
+      ⊎ ((w : Vote) × Mine w × (vote_after i last (e ∷ []) ≡ Some w))
   pub learns : learned_at i (e ∷ []) ≡ None
   pub floor : floor_of (e ∷ []) ≡ 0
 
@@ -59,15 +67,27 @@ module _ (i : ℕ) (Only : BallotOf → Type 0) (Mine : Vote → Type 0) where
   fair_round r = record { raises = λ c h. absurd h; votes = λ last. inl refl; learns = refl; floor = refl }
 
   pub fair_promise : (j : ℕ) (b : BallotOf) → j ≢ i → IsFair i Only Mine (Promised j b)
-  fair_promise j b apart = record { raises = λ c h. absurd (apart h.0); votes = λ last. inl refl; learns = refl; floor = refl }
+  fair_promise j b apart = record {
+    raises = λ c h. absurd (apart h.0);
+    votes = λ last. inl refl;
+    learns
+        = refl;
+    floor = refl;
+  }
 
   pub fair_span : (j k : ℕ) (b : BallotOf) → i < j → IsFair i Only Mine (PromisedSpan j k b)
-  fair_span j k b above = record { raises = λ c h. absurd (let low = h.0.0 in omega (arith, low, above)); votes = λ last. inl refl; learns = refl; floor = refl }
+  fair_span j k b above = record {
+    raises = λ c h. absurd (let low = h.0.0 in omega (arith, low, above));
+    votes = λ last. inl refl;
+    learns = refl;
+    floor = refl;
+  }
 
   pub fair_vote : (j : ℕ) (b : BallotOf) (v : Value) → j ≢ i → IsFair i Only Mine (Voted j b v)
   fair_vote j b v apart = record {
     raises = λ c h. absurd (apart h.0);
-    votes = λ last. inl (ap (λ t. cond t (Some (record { ballot = b; value = v })) last) (not_same i j apart));
+    votes = λ last. inl (ap (λ t. cond t (Some (record { ballot = b; value = v })) last)
+        (not_same i j apart));
     learns = refl;
     floor = refl;
   }
@@ -89,24 +109,32 @@ module _ (i : ℕ) (Only : BallotOf → Type 0) (Mine : Vote → Type 0) where
 
 -- ---- a node
 
--- A node that knows these values and not the next one. Of that instance its record has only such ballots and such votes, and no value
-pub record IsClean (values : List Value) (Only : BallotOf → Type 0) (Mine : Vote → Type 0) (s : Node) : Type 0 where
-  pub begins : BeginsKnown values s
-  pub unknown : s.known (suc (length values)) ≡ None
-  pub raised : (e : Entry) (c : BallotOf) → In s.entries e → Raises e (suc (length values)) c → Only c
-  pub voted : (x : Vote) → last_vote (suc (length values)) s.entries ≡ Some x → Mine x
-  pub unlearned : learned_at (suc (length values)) s.entries ≡ None
-  pub not_mute : ¬ IsMute s (suc (length values))
+-- A node that knows these values and not the next one. Of that instance its record has only such ballots and
+-- such votes, and no value
+pub record IsClean (values : List Value) (Only : BallotOf → Type 0) (Mine : Vote → Type 0) (s : Node) : Type 0
+  where
+    pub begins : BeginsKnown values s
+    pub unknown : s.known (suc (length values)) ≡ None
+    pub raised : (e : Entry) (c : BallotOf) → In s.entries e → Raises e (suc (length values)) c → Only c
+    pub voted : (x : Vote) → last_vote (suc (length values)) s.entries ≡ Some x → Mine x
+    pub unlearned : learned_at (suc (length values)) s.entries ≡ None
+    pub not_mute : ¬ IsMute s (suc (length values))
 
--- such an entry, or none
-pub record IsFairOr (i : ℕ) (Only : BallotOf → Type 0) (Mine : Vote → Type 0) (o : Option Entry) : Type 0 where
-  pub each : (e : Entry) → o ≡ Some e → IsFair i Only Mine e
+-- such an entry goes on record, or none
+pub record IsFairOr (i : ℕ) (Only : BallotOf → Type 0) (Mine : Vote → Type 0) (o : Option Entry) : Type 0
+  where
+    pub each : (e : Entry) → o ≡ Some e → IsFair i Only Mine e
 
-pub fair_none : (i : ℕ) (Only : BallotOf → Type 0) (Mine : Vote → Type 0) (o : Option Entry) → o ≡ None → IsFairOr i Only Mine o
+pub fair_none : (i : ℕ) (Only : BallotOf → Type 0) (Mine : Vote → Type 0) (o : Option Entry) → o ≡ None
+    → IsFairOr i Only Mine o
 fair_none i Only Mine o is = record { each = λ e at. absurd (no_entry e (sym is ∙ at)) }
 
-pub fair_some : (i : ℕ) (Only : BallotOf → Type 0) (Mine : Vote → Type 0) (o : Option Entry) (e : Entry) → o ≡ Some e → IsFair i Only Mine e → IsFairOr i Only Mine o
-fair_some i Only Mine o e is fair = record { each = λ f at. subst (IsFair i Only Mine) (inside_entry e f (sym is ∙ at)) fair }
+pub fair_some : (i : ℕ) (Only : BallotOf → Type 0) (Mine : Vote → Type 0) (o : Option Entry) (e : Entry)
+    → o ≡ Some e → IsFair i Only Mine e → IsFairOr i Only Mine o
+fair_some i Only Mine o e is fair = record {
+  each = λ f at. subst (IsFair i Only Mine)
+      (inside_entry e f (sym is ∙ at)) fair;
+}
 
 inside_vote : (a b : Vote) → Some a ≡ Some b → a ≡ b
 inside_vote a b e = cc
@@ -115,7 +143,9 @@ module _ (values : List Value) (Only : BallotOf → Type 0) (Mine : Vote → Typ
   abbrev i : ℕ
   i = suc (length values)
 
-  pushed : (s t : Node) (o : Option Entry) → IsClean values Only Mine s → IsFairOr i Only Mine o → t.entries ≡ with_entry s.entries o → BeginsKnown values t → t.known i ≡ None → IsClean values Only Mine t
+  pushed : (s t : Node) (o : Option Entry) → IsClean values Only Mine s → IsFairOr i Only Mine o
+      → t.entries ≡ with_entry s.entries o → BeginsKnown values t → t.known i ≡ None
+      → IsClean values Only Mine t
   pushed s t None clean fair is begins unknown = record {
     begins = begins;
     unknown = unknown;
@@ -140,9 +170,13 @@ module _ (values : List Value) (Only : BallotOf → Type 0) (Mine : Vote → Typ
             subst Mine (inside_vote w.0 x (sym w.2 ∙ sym past ∙ sym (ap (λ l. last_vote i l) is) ∙ at)) w.1)
             (f.votes (last_vote i s.entries));
         unlearned = ap (λ l. learned_at i l) is ∙ learned_at-kept i s.entries e f.learns ∙ clean.unlearned;
-        not_mute = λ mute. clean.not_mute (let g = ap floor_of is ∙ floor_of-push s.entries e f.floor in omega (arith, g, mute));
+        not_mute = λ mute. clean.not_mute (let g = ap floor_of is
+            ∙ floor_of-push s.entries e f.floor in omega (arith, g, mute));
       }
 
-  -- a call that leaves the instance unknown, and puts such an entry
-  pub clean_on : (s : Node) (effect : Effect) → IsClean values Only Mine s → IsFairOr i Only Mine effect.entry → BeginsKnown values (recorded s effect) → effect.after.known i ≡ None → IsClean values Only Mine (recorded s effect)
-  clean_on s effect clean fair begins unknown = pushed s (recorded s effect) effect.entry clean fair refl begins unknown
+  -- a call keeps the node clean if it leaves the instance unknown, and puts such an entry or none
+  pub clean_on : (s : Node) (effect : Effect) → IsClean values Only Mine s → IsFairOr i Only Mine effect.entry
+      → BeginsKnown values (recorded s effect) → effect.after.known i ≡ None
+      → IsClean values Only Mine (recorded s effect)
+  clean_on s effect clean fair begins unknown = pushed s (recorded s effect) effect.entry clean fair refl
+      begins unknown

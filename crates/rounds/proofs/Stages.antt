@@ -20,17 +20,19 @@ use Rattle.rounds.proofs.Counting.{IsVoteOrBlank}
 use Rattle.rounds.proofs.Loosening.{IsLoose}
 use Rattle.rounds.proofs.Waiting.{IsWaiting}
 
+-- node p of n tries v at the instance after these values; a clock moves d milliseconds at most in a round
 module _ (n p d : ℕ) (values : List Value) (v : Value) where
   abbrev i : ℕ
   i = suc (length values)
 
-  -- node p has begun its attempt, or this node wants none
+  -- this node is p and has begun its attempt, or it is another one and wants no tick
   abbrev pub IsSide : BallotOf → ℕ → Server → Type 0
   IsSide b q x =
-      ((q ≡ p) × IsHeld n q values IsNoBallot IsNoVote (Some (opened b v)) x.node × (x.pace.ticking.since ≢ None))
+      ((q ≡ p) × IsHeld n q values IsNoBallot IsNoVote (Some (opened b v)) x.node
+      × (x.pace.ticking.since ≢ None))
       ⊎ ((q ≢ p) × IsHeld n q values IsNoBallot IsNoVote None x.node × (x.node.reached ≤ length values))
 
-  -- the ballot of an attempt of node p
+  -- it is a ballot of node p, and its round is in range
   pub record IsOwn (b : BallotOf) : Type 0 where
     pub of : b.node ≡ p
     pub round : (1 ≤ b.round) × (b.round < 2 ^ 32)
@@ -44,7 +46,7 @@ module _ (n p d : ℕ) (values : List Value) (v : Value) where
     pub waiting : IsWaiting (length values) y.now y.pace.ticking
     pub says : AreAll (IsAnswer i (All, prepare b)) out
 
-  -- behind the first round node p's prepare waits for each
+  -- after the first round node p's prepare waits for each node
   pub record IsOne (b : BallotOf) (g : Group) : Type 0 where
     pub own : IsOwn b
     pub side : (q : ℕ) → IsNode n q → IsSide b q (g q)
@@ -60,7 +62,7 @@ module _ (n p d : ℕ) (values : List Value) (v : Value) where
   abbrev pub IsAttemptOf : BallotOf → ℕ → Option Attempt → Type 0
   IsAttemptOf b q o = ((q ≡ p) × (o ≡ Some (opened b v))) ⊎ ((q ≢ p) × (o ≡ None))
 
-  -- what a step of the second round leaves, where its server's clock was at a moment behind the first
+  -- what a step of the second round leaves. Its server's clock showed this moment after the first round
   pub record StepsTwo (b : BallotOf) (q from : ℕ) (y : Server) (out : List (To × Message)) : Type 0 where
     pub attempt : Option Attempt
     pub attempt_of : IsAttemptOf b q attempt
@@ -70,13 +72,16 @@ module _ (n p d : ℕ) (values : List Value) (v : Value) where
     pub says : AreAll (IsAnswer i (One p, promise b q)) out
     pub promises : In out (One p, promise b q)
 
-  -- behind the second round all promises wait for node p
+  -- after the second round all promises wait for node p
   pub record IsTwo (b : BallotOf) (g : Group) : Type 0 where
     pub own : IsOwn b
-    pub attempt : (q : ℕ) → IsNode n q → (o : Option Attempt) × IsAttemptOf b q o × IsHeld n q values (IsThis b) IsNoVote o (g q).node
+    pub attempt : (q : ℕ) → IsNode n q → (o : Option Attempt) × IsAttemptOf b q o
+        × IsHeld n q values (IsThis b) IsNoVote o (g q).node
     pub stirred : (q : ℕ) → IsNode n q → (g q).pace.stirred ≡ true
-    pub waiting : (q : ℕ) → IsNode n q → (from : ℕ) × IsWaiting (length values) from (g q).pace.ticking × (from ≤ (g q).now) × ((g q).now + d - from < (g q).pace.patience)
-    pub allowed : (q : ℕ) → IsNode n q → AreAllowed n q (λ m. IsElsewhere i m ⊎ ((q ≡ p) × ((r : ℕ) × IsNode n r × (m ≡ promise b r)))) (g q).waits
+    pub waiting : (q : ℕ) → IsNode n q → (from : ℕ) × IsWaiting (length values) from (g q).pace.ticking
+        × (from ≤ (g q).now) × ((g q).now + d - from < (g q).pace.patience)
+    pub allowed : (q : ℕ) → IsNode n q → AreAllowed n q (λ m. IsElsewhere i m
+        ⊎ ((q ≡ p) × ((r : ℕ) × IsNode n r × (m ≡ promise b r)))) (g q).waits
     pub here : (r : ℕ) → IsNode n r → In (g p).waits (spelled (promise b r))
 
   abbrev pub proposal : BallotOf → Message
@@ -88,23 +93,25 @@ module _ (n p d : ℕ) (values : List Value) (v : Value) where
     pub held : IsHeld n q values (IsThis b) IsNoVote attempt y.node
     pub says : AreAll (IsAnswer i (All, proposal b)) out
 
-  -- behind the third round the proposal waits for each
+  -- after the third round the proposal waits for each node
   pub record IsThree (b : BallotOf) (g : Group) : Type 0 where
     pub own : IsOwn b
     pub fits : length v ≤ 32768
-    pub attempt : (q : ℕ) → IsNode n q → (o : Option Attempt) × IsHeld n q values (IsThis b) IsNoVote o (g q).node
+    pub attempt : (q : ℕ) → IsNode n q → (o : Option Attempt)
+        × IsHeld n q values (IsThis b) IsNoVote o (g q).node
     pub allowed : (q : ℕ) → IsNode n q → AreAllowed n q (IsAsideOrIt i (proposal b)) (g q).waits
     pub here : (q : ℕ) → IsNode n q → In (g q).waits (spelled (proposal b))
 
   abbrev pub accepted : BallotOf → ℕ → Message
   accepted b r = Accepted r i b v
 
+  -- what a step of the fourth round leaves
   pub record StepsFour (b : BallotOf) (q : ℕ) (y : Server) (out : List (To × Message)) : Type 0 where
     pub unknown : y.node.known i ≡ None
     pub says : AreAll (λ x. IsAnswer i (All, accepted b q) x ⊎ IsLoose q i (IsVoteOf b v) x) out
     pub votes : In out (All, accepted b q)
 
-  -- behind the fourth round all votes wait for each
+  -- after the fourth round all votes wait for each node
   pub record IsFour (b : BallotOf) (g : Group) : Type 0 where
     pub own : IsOwn b
     pub fits : length v ≤ 32768

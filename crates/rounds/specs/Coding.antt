@@ -14,9 +14,9 @@ use Rattle.rounds.specs.Rounds.{Server, Steps}
 abbrev pub server_of : Node → Pace → List (List ℕ) → ℕ → Server
 server_of s pace waits now = record { node = s; pace = pace; waits = waits; now = now }
 
--- These two clauses are `Server::step`'s, of its batch and of its pace. From each node that the code's stood for
--- before, a step of a round leads to one that it stands for after the batch; whatever waits then, and however many
--- steps the pace then counts in which nothing came
+-- `Server::step` has these two clauses, of its batch and of its pace. From each node that the code's node
+-- stood for before, a step of a round leads to one that it stands for after the batch. This holds whatever
+-- waits then, and however many steps the pace counts in which nothing came
 abbrev pub StepsAreSteps : {D : Type 0} → (D → DiskState → Type 0) → Type 0
 StepsAreSteps stands_for = (old new : Running _) (before after : Mail) (pace paced : Pace) (last : LastCall)
     (malformed earlier now : ℕ)

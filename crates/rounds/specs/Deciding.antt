@@ -68,8 +68,8 @@ abbrev pub StartIsCalm : Type 0
 StartIsCalm = (n p : ℕ) (times : ℕ → Times) (pending : List Value) → IsNode n p
     → IsCalm n p [] pending (begun_group times n p pending)
 
--- Two rounds take less than each patience. Then after five rounds every server knows the oldest pending value:
--- a tick, promises, a proposal, votes, and that they are a majority's
+-- Two rounds take less than each patience. Then after five rounds every server knows the oldest pending
+-- value: a tick, promises, a proposal, votes, and that they are a majority's
 abbrev pub CalmRoundsDecide : Type 0
 CalmRoundsDecide = (n p d : ℕ) (values rest : List Value) (v : Value) (g h : Group)
     → IsCalm n p values (v ∷ rest) g → ((q : ℕ) → IsNode n q → 2 * d < (g q).pace.patience)

@@ -27,8 +27,9 @@ pub record Server : Type 0 where
 abbrev pub Group : Type 0
 Group = ℕ → Server
 
--- A step of server p of n. It makes the call that its pace says is due, after it took all that waited. The pace
--- hears what that was; how many steps went by in which nothing came is left open. No client submits a value
+-- A step of server p of n. It makes the call that its pace says is due, after it took all that waited. The
+-- pace hears what that was; how many steps went by in which nothing came is left open. No client submits a
+-- value
 pub record Steps (n p : ℕ) (x y : Server) (letters : List (To × List ℕ)) : Type 0 where
   pub drained : Bool
   pub last : LastCall
@@ -45,8 +46,8 @@ pub record Steps (n p : ℕ) (x y : Server) (letters : List (To × List ℕ)) : 
   pub rests : y.pace ≡ record heard { empty = y.pace.empty }
   pub letters_are : letters ≡ spelled_of out
 
--- Every server takes a step, its clock 1 to d milliseconds on. Before the next one there waits for it what each
--- has for it, in any order and any number of times, and nothing else
+-- Every server takes a step, its clock 1 to d milliseconds on. Before the next one there waits for it what
+-- each has for it, in any order and any number of times, and nothing else
 pub record IsRound (n d : ℕ) (g h : Group) : Type 0 where
   pub letters : ℕ → List (To × List ℕ)
   pub steps : (p : ℕ) → IsNode n p → Steps n p (g p) (h p) (letters p)

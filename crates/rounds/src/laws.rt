@@ -4,17 +4,17 @@ ghost use Rattle.rounds.specs.Deciding.{CalmRoundsDecide, RoundsKeep, StartIsCal
 
 use site_disk::Disk;
 
-/// Five rounds of a calm group decide. All servers know the same values and attempt nothing, and values were just
-/// submitted at one of them. Two rounds take less than each patience. Then after five rounds every server knows
-/// the oldest of these values, and it still does after any more rounds. A group that begins is calm.
+/// Five rounds of a calm group decide. In a calm group all servers know the same values and attempt nothing,
+/// and values were just submitted at one of them. If two rounds take less than each patience, every server
+/// knows the oldest of these values after five rounds, and after any more. A group that begins is calm.
 pub fn calm_rounds_decide()
     ensures decides { CalmRoundsDecide }
     ensures keeps { RoundsKeep }
     ensures start { StartIsCalm }
 {}
 
-/// What `Server::step` promises of its batch and of its pace is a step of a round. So the rounds say of a server
-/// nothing that its code does not promise, if its clients submit nothing.
+/// What `Server::step` promises of its batch and of its pace is a step of a round. So the rounds say nothing of
+/// a server that its code does not promise, if its clients submit nothing.
 pub fn steps_are_steps<D: Disk>()
     ensures { StepsAreSteps D.stands_for }
 {}

@@ -1,5 +1,5 @@
-//! Servers in rounds: in each round every server takes one step, and what those hand out waits before the next
-//! ones. That a calm group decides in five of them, and that steps of a server's code are such steps.
+//! Servers in rounds: in each round every server takes one step, and what those hand out waits before the
+//! next ones. A calm group decides in five rounds, and steps of a server's code are such steps.
 #![tactic(auto)]
 
 mod laws;
