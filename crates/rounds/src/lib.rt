@@ -1,0 +1,7 @@
+//! Servers in rounds: in each round every server takes one step, and what those hand out waits before the
+//! next ones. A calm group decides in five rounds, and steps of a server's code are such steps.
+#![tactic(auto)]
+
+mod laws;
+
+pub use laws::{calm_rounds_decide, steps_are_steps};
