@@ -1,5 +1,5 @@
 //! That rounds decide.
-ghost use Rattle.rounds.specs.Coding.{StepsAreSteps};
+ghost use Rattle.rounds.specs.Coding.{CodeRoundsDecide, StepsAreSteps};
 ghost use Rattle.rounds.specs.Deciding.{CalmRoundsDecide, RoundsKeep, StartIsCalm};
 
 use site_disk::Disk;
@@ -14,7 +14,9 @@ pub fn calm_rounds_decide()
 {}
 
 /// What `Server::step` promises of its batch and of its pace is a step of a round. So the rounds say nothing of
-/// a server that its code does not promise, if its clients submit nothing.
-pub fn steps_are_steps<D: Disk>()
-    ensures { StepsAreSteps D.stands_for }
+/// a server that its code does not promise, and five rounds of the code of a calm group decide. In these rounds
+/// no client submits a value.
+pub fn rounds_of_code_decide<D: Disk>()
+    ensures step { StepsAreSteps D.stands_for }
+    ensures decides { CodeRoundsDecide D.stands_for }
 {}

@@ -4,4 +4,4 @@
 
 mod laws;
 
-pub use laws::{calm_rounds_decide, steps_are_steps};
+pub use laws::{calm_rounds_decide, rounds_of_code_decide};
