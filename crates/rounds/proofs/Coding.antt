@@ -55,11 +55,13 @@ module _ {D : Type 0} (stands_for : D → DiskState → Type 0) (n d : ℕ) wher
       (stand : (q : ℕ) → IsNode n q → IsNodeOf (g q).node (nodes q)) where
     -- where a step of the code leads
     led : (q : ℕ) (here : IsNode n q) → (next : Node) × IsNodeOf (h q).node next
-        × Steps n q (group_of g nodes q) (server_of next (h q).pace (waiting_of (h q).mail) (h q).now) (round.letters q)
+        × Steps n q (group_of g nodes q) (server_of next (h q).pace (waiting_of (h q).mail) (h q).now)
+        (round.letters q)
     led q here =
         let st = round.steps q here in
         let whose = round.whose q here in
-        let r = steps_are_steps stands_for (g q).node (h q).node (g q).mail st.left (g q).pace st.paced st.last
+        let r = steps_are_steps stands_for (g q).node (h q).node (g q).mail st.left (g q).pace st.paced
+        st.last
         st.malformed (g q).now (h q).now st.batch st.paces (nodes q) (stand q here) in
         let step = r.2 (waiting_of (h q).mail) (h q).pace.empty in
         let there = server_of r.0 (h q).pace (waiting_of (h q).mail) (h q).now in
@@ -67,12 +69,14 @@ module _ {D : Type 0} (stands_for : D → DiskState → Type 0) (n d : ℕ) wher
         subst (λ (p : Pace). Steps (g q).node.cluster (g q).node.me (group_of g nodes q)
         (server_of r.0 p (waiting_of (h q).mail) (h q).now) (posted_of st.left)) (sym st.rests) step in
         let said : Steps (g q).node.cluster (g q).node.me (group_of g nodes q) there (round.letters q) =
-        subst (λ (l : List (To × List ℕ)). Steps (g q).node.cluster (g q).node.me (group_of g nodes q) there l)
+        subst
+        (λ (l : List (To × List ℕ)). Steps (g q).node.cluster (g q).node.me (group_of g nodes q) there l)
         (sym st.letters_are) paced in (
           r.0,
           r.1,
           subst (λ m. Steps m q (group_of g nodes q) there (round.letters q)) whose.1
-              (subst (λ p. Steps (g q).node.cluster p (group_of g nodes q) there (round.letters q)) whose.0 said),
+              (subst (λ p. Steps (g q).node.cluster p (group_of g nodes q) there (round.letters q)) whose.0
+              said),
         )
 
     abbrev pick : (q : ℕ) → IsNode n q ⊎ (¬ IsNode n q) → Node
@@ -113,11 +117,14 @@ module _ {D : Type 0} (stands_for : D → DiskState → Type 0) (n d : ℕ) wher
   )
   are_rounds (suc k) g h nodes stand how =
       let mid = how.0 in
-      let rest = are_rounds k mid h (next g mid how.1 nodes stand) (next_stand g mid how.1 nodes stand) how.2 in
-      (rest.0, rest.1, (group_of mid (next g mid how.1 nodes stand), is_round g mid how.1 nodes stand, rest.2))
+      let then_nodes = next g mid how.1 nodes stand in
+      let rest = are_rounds k mid h then_nodes (next_stand g mid how.1 nodes stand) how.2 in
+      (rest.0, rest.1, (group_of mid then_nodes, is_round g mid how.1 nodes stand, rest.2))
 
 pub code_rounds_decide : {D : Type 0} (stands_for : D → DiskState → Type 0) → CodeRoundsDecide stands_for
 code_rounds_decide stands_for n p d values rest v g h nodes stand calm patience rounds q here =
     let r = are_rounds stands_for n d 5 g h nodes stand rounds in
     let groups : AreRounds n d 5 (group_of g nodes) (group_of h r.0) = r.2 in
-    (r.0 q, r.1 q here, calm_rounds_decide n p d values rest v (group_of g nodes) (group_of h r.0) calm patience groups q here)
+    let known = calm_rounds_decide n p d values rest v (group_of g nodes) (group_of h r.0) calm patience groups q
+    here in
+    (r.0 q, r.1 q here, known)

@@ -1,5 +1,5 @@
--- Who ticks: a server tries a fresh value at once. One that wants no tick, or waits for less than its patience,
--- does not tick.
+-- Who ticks: a server tries a fresh value at once. One that wants no tick, or waits for less than its
+-- patience, does not tick.
 use Rattle.std.proofs.Common.{◌≡◌, ◌≢◌, ◌⊎◌, ⊎_elim, ℕ, zero, suc, ◌+◌, ◌<◌, ◌≤◌, Bool, true, false, cond}
 use Rattle.std.proofs.Common.{Option, Some, None, List, [], ◌∷◌, length, refl, sym, ap, subst, ◌∙◌, arith}
 use Rattle.std.specs.Prelude.{◌-◌, ◌*◌, ◌^◌, ◌||◌, ◌&&◌, not, nat_eq, nat_lt, min, max, get_or, replicate}

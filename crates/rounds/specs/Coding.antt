@@ -20,9 +20,9 @@ use Rattle.rounds.specs.Deciding.{IsCalm}
 abbrev pub server_of : Node → Pace → List (List ℕ) → ℕ → Server
 server_of s pace waits now = record { node = s; pace = pace; waits = waits; now = now }
 
--- `Server::step` has these two clauses, of its batch and of its pace. From each node that the code's node stood
--- for before, a step of a round leads to one that it stands for after the batch. This holds whatever waits then,
--- and however many steps the pace counts in which nothing came
+-- `Server::step` has these two clauses, of its batch and of its pace. From each node that the code's node
+-- stood for before, a step of a round leads to one that it stands for after the batch. This holds whatever
+-- waits then, and however many steps the pace counts in which nothing came
 abbrev pub StepsAreSteps : {D : Type 0} → (D → DiskState → Type 0) → Type 0
 StepsAreSteps stands_for = (old new : Running _) (before after : Mail) (pace paced : Pace) (last : LastCall)
     (malformed earlier now : ℕ)
@@ -46,8 +46,8 @@ pub record CodeServer (D : Type 0) : Type 0 where
 abbrev pub group_of : {D : Type 0} → (ℕ → CodeServer D) → (ℕ → Node) → Group
 group_of g nodes q = server_of (nodes q) (g q).pace (waiting_of (g q).mail) (g q).now
 
--- What `Server::step` promises of its batch and of its pace. These letters are those of the mail that it leaves.
--- Then the server rests, which counts the steps in which nothing came
+-- What `Server::step` promises of its batch and of its pace. These letters are those of the mail that it
+-- leaves. Then the server rests, which counts the steps in which nothing came
 pub record CodeSteps {D : Type 0} (stands_for : D → DiskState → Type 0) (x y : CodeServer D)
     (letters : List (To × List ℕ)) : Type 0 where
   pub last : LastCall

@@ -13,9 +13,9 @@ pub fn calm_rounds_decide()
     ensures start { StartIsCalm }
 {}
 
-/// What `Server::step` promises of its batch and of its pace is a step of a round. So the rounds say nothing of
-/// a server that its code does not promise, and five rounds of the code of a calm group decide. In these rounds
-/// no client submits a value.
+/// What `Server::step` promises of its batch and of its pace is a step of a round. So the rounds say nothing
+/// of a server that its code does not promise, and five rounds of the code of a calm group decide. In these
+/// rounds no client submits a value.
 pub fn rounds_of_code_decide<D: Disk>()
     ensures step { StepsAreSteps D.stands_for }
     ensures decides { CodeRoundsDecide D.stands_for }
