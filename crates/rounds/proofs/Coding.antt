@@ -1,5 +1,5 @@
 -- A step of a server's code is a step of a round, and rounds of code are rounds.
-use Rattle.std.proofs.Common.{◌≡◌, ◌⊎◌, inl, inr, ⊎_elim, ℕ, zero, suc, ◌<◌, ◌≤◌, List, refl, sym, ap, subst}
+use Rattle.std.proofs.Common.{◌⊎◌, inl, inr, ⊎_elim, ℕ, zero, suc, ◌<◌, ◌≤◌, List, refl, sym, ap, subst}
 use Rattle.std.proofs.Common.{arith}
 use Rattle.site_ids.specs.Ids.{IsNode}
 use Rattle.site_disk.specs.Model.{DiskState}
