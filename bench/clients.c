@@ -1,13 +1,16 @@
 /* Clients of HTTP servers, many in one process, each with one connection and one request at a time:
 
      clients [--kept] pages PATH SECONDS CLIENTS HOST:PORT..       a page, again and again
-     clients [--kept] commits EDITOR SECONDS CLIENTS HOST:PORT..   a command is posted, and then its receipt asked for until it is known; it is
+     clients [--kept] [--at-once] commits EDITOR SECONDS CLIENTS HOST:PORT..
+                                                                   a command is posted, and then its receipt asked for until it is known; it is
                                                                    posted again where the server may have lost it: one that ended, or took a second
      clients [--kept] puts WORD SECONDS CLIENTS HOST:PORT..        etcd's: a value of as many bytes, by its HTTP gateway, each under a key of its own
      clients [--kept] fill EDITOR COUNT CLIENTS HOST:PORT..        so many commands, each posted until it is taken
      clients [--kept] burst EDITOR COUNT 0 HOST:PORT..             so many commands at each server at once, until each receipt stands at every server
 
    The clients take the servers in turn. Each request has a fresh connection; with --kept it goes over the one before, while the server lets that stay.
+   With --at-once the post of a command and the question for its receipt go out in one write, on one connection, so that a commit may take one round
+   trip. Only a receipt that is not there yet is asked for again, by itself.
    It prints one line, and fails where a server answers what it should not, or something is not done two minutes after it began, or after the time was up. */
 #define _GNU_SOURCE
 #include <arpa/inet.h>
@@ -32,6 +35,7 @@ struct client {
     const struct sockaddr_in *host;
     int place, socket;     /* the socket is -1 where no connection is open */
     bool used, asks;       /* the connection has had an answer; the command is posted, and its receipt asked for */
+    bool both;             /* the answer to the post is awaited, and after it that to the question for the receipt */
     long number;           /* of the command, or whatever it is at */
     double began, posted;  /* when that began, and when it was last taken */
     double due;            /* when the next request goes out: 0 while one is under way */
@@ -40,11 +44,12 @@ struct client {
     char head[2048];
     long came, length;     /* of the answer: bytes that came, and all of it, once its head is there */
     int status;
+    double pause;          /* until the post is made again, if the first answer of two says that it was not taken; else 0 */
     bool last;             /* the answer says that it is the connection's last */
 };
 
 static enum kind kind;
-static bool kept;
+static bool kept, at_once;
 static const char *word;
 static struct sockaddr_in hosts[CLIENTS];
 static int host_count;
@@ -77,16 +82,23 @@ static bool begins(struct client *c) {
     return kind == FILL || kind == LOOK ? c->number <= count : c->due < end;
 }
 
+static void write_question(struct client *c) {
+    c->size += sprintf(c->out + c->size, "GET /_ticket/%.20s/%ld HTTP/1.1\r\nHost: a\r\n%s\r\n", word, c->number, kept ? "" : "Connection: close\r\n");
+}
+
 static void write_request(struct client *c) {
-    const char *close = kept ? "" : "Connection: close\r\n";
+    c->both = at_once && kind == COMMITS && !c->asks;
+    c->size = 0;
+    const char *close = kept || c->both ? "" : "Connection: close\r\n";
     const char *text = "put data d\n{\"text\":\"xxxxxxxxxxxxxxxxxxxxxxxxxxxxxxxxxxxxxxxxxxxxxxxxxxxxxxxxxxx\"}";
     char body[256];
     if (kind == PAGES) c->size = sprintf(c->out, "GET %.200s HTTP/1.1\r\nHost: a\r\n%s\r\n", word, close);
-    else if (c->asks) c->size = sprintf(c->out, "GET /_ticket/%.20s/%ld HTTP/1.1\r\nHost: a\r\n%s\r\n", word, c->number, close);
+    else if (c->asks) write_question(c);
     else if (kind == PUTS) { /* twelve digits are the base64 of nine bytes, and four letters that of three */
         const int length = sprintf(body, "{\"key\":\"%012ld\",\"value\":\"%0*d\"}", c->number, BYTES / 3 * 4, 0);
         c->size = sprintf(c->out, "POST /v3/kv/put HTTP/1.1\r\nHost: a\r\n%sContent-Length: %d\r\n\r\n%s", close, length, body);
     } else c->size = sprintf(c->out, "POST /_submit/%.20s/%ld HTTP/1.1\r\nHost: a\r\n%sContent-Length: %zu\r\n\r\n%s", word, c->number, close, strlen(text), text);
+    if (c->both) write_question(c);
     c->sent = 0;
     c->came = c->length = 0;
 }
@@ -128,17 +140,27 @@ static void drop(struct client *c) {
 }
 
 static void finish(struct client *c) {
-    const double pause = understood(c), t = now();
+    const double pause = c->pause > 0 ? c->pause : understood(c), t = now();
+    c->pause = 0;
     c->used = true;
     if (!kept || c->last) drop(c);
     c->due = t + pause;
     if (pause < 0) { note(t - c->began); go_on(c); }
 }
 
+/* The answer to the post is there, and that to the question for the receipt comes after it. If the post was not taken, the second answer is of no use. */
+static void go_on_to_second(struct client *c) {
+    c->pause = understood(c);
+    c->used = true;
+    c->both = false;
+    c->came = c->length = 0;
+}
+
 /* the connection failed, or ended within an answer. One that stayed may have been closed meanwhile: a fresh one is opened at once. */
 static void broken(struct client *c, int why) {
     const bool again = c->used && !c->came;
     drop(c);
+    c->pause = 0;
     if (kind == COMMITS && !again) c->asks = false;
     if (!again && (kind == PAGES || kind == PUTS)) fail("a connection failed", why);
     c->due = again ? now() : now() + POSTS_AGAIN;
@@ -176,20 +198,33 @@ static void read_head(struct client *c) {
     c->length = behind + 4 - c->head + (field ? atol(field + 17) : 0);
 }
 
+static bool is_whole(const struct client *c) { return c->length && c->came == c->length; }
+
+/* takes in what is of the present answer: how many of these bytes */
+static long take(struct client *c, const char *bytes, long n) {
+    if (!c->length) {
+        const long free = sizeof c->head - 1 - c->came, taken = n < free ? n : free, before = c->came;
+        memcpy(c->head + before, bytes, taken);
+        c->head[before + taken] = 0;
+        c->came += taken;
+        read_head(c);
+        c->came = before;
+    }
+    const long rest = c->length - c->came, taken = c->both && c->length && rest < n ? rest : n;
+    c->came += taken;
+    return taken;
+}
+
 static void receive(struct client *c) {
     static char bytes[65536];
     const ssize_t n = recv(c->socket, bytes, sizeof bytes, 0);
     if (n < 0) { if (errno != EAGAIN) broken(c, errno); return; }
-    if (n > 0 && !c->length) {
-        const long free = sizeof c->head - 1 - c->came, taken = n < free ? n : free;
-        memcpy(c->head + c->came, bytes, taken);
-        c->head[c->came + taken] = 0;
+    for (long at = 0; at < n;) {
+        at += take(c, bytes + at, n - at);
+        if (c->both && is_whole(c)) { if (c->last) c->both = false; else go_on_to_second(c); }
     }
-    c->came += n;
-    if (!c->length) read_head(c);
     /* whole, and where the server closes the connection closed by it, so that no port of a client waits */
-    const bool whole = c->length && c->came == c->length;
-    if (whole && (n == 0 || (kept && !c->last))) finish(c);
+    if (is_whole(c) && (n == 0 || (kept && !c->last))) finish(c);
     else if (n == 0) broken(c, 0);
 }
 
@@ -258,10 +293,12 @@ static struct sockaddr_in address(char *text) {
 }
 
 int main(int words, char **w) {
-    kept = words > 1 && !strcmp(w[1], "--kept");
-    w += kept;
-    words -= kept;
-    if (words < 6) { fputs("usage: clients [--kept] pages|commits|puts|fill|burst WORD SECONDS|COUNT CLIENTS HOST:PORT..\n", stderr); return 2; }
+    for (; words > 1 && w[1][0] == '-'; w++, words--) {
+        if (!strcmp(w[1], "--kept")) kept = true;
+        else if (!strcmp(w[1], "--at-once")) at_once = true;
+        else fail(w[1], 0);
+    }
+    if (words < 6) { fputs("usage: clients [--kept] [--at-once] pages|commits|puts|fill|burst WORD SECONDS|COUNT CLIENTS HOST:PORT..\n", stderr); return 2; }
     const int many = atoi(w[4]);
     word = w[2];
     host_count = words - 5;
