@@ -39,14 +39,17 @@ talk_ends_asking Clock is = tt
 talk_ends_asking OutOfMemory is = tt
 talk_ends_asking _ is = absurd is
 
-pub asking_ends_confirming : (n : ℕ) (folder : List ℕ) (patience : ℕ) (book : Book) (why : EditorFault) → EndsAsking why → EndsConfirming n folder patience book why
+pub asking_ends_confirming : (n : ℕ) (folder : List ℕ) (patience : ℕ) (book : Book) (why : EditorFault)
+    → EndsAsking why → EndsConfirming n folder patience book why
 asking_ends_confirming n folder patience book (Stop words) is = inl is
 asking_ends_confirming n folder patience book Write is = tt
 asking_ends_confirming n folder patience book Clock is = tt
 asking_ends_confirming n folder patience book OutOfMemory is = tt
 asking_ends_confirming n folder patience book _ is = absurd is
 
-pub refusal_ends_confirming : (n : ℕ) (folder : List ℕ) (patience : ℕ) (book : Book) (found : Standing) (why : EditorFault) → Stands n (last_ticket book) (last_shown book) found → ¬ (found ≡ Newest) → Refuses folder (waited_for patience found) why → EndsConfirming n folder patience book why
+pub refusal_ends_confirming : (n : ℕ) (folder : List ℕ) (patience : ℕ) (book : Book) (found : Standing)
+    (why : EditorFault) → Stands n (last_ticket book) (last_shown book) found → ¬ (found ≡ Newest)
+    → Refuses folder (waited_for patience found) why → EndsConfirming n folder patience book why
 refusal_ends_confirming n folder patience book found (Stop words) stands older is = inr (found, stands, older, is)
 refusal_ends_confirming n folder patience book found OutOfMemory stands older is = tt
 refusal_ends_confirming n folder patience book found _ stands older is = absurd is
