@@ -8,7 +8,7 @@ use Rattle.editor_plan.specs.declared.standing.Standing.{Standing}
 use Rattle.editor_plan.specs.declared.standing.Standing.TheVariants.{Newest, Older, Elsewhere, Returning, Unanswered}
 use Rattle.editor_plan.specs.declared.standing.Witness.{Witness}
 use Rattle.editor_group.specs.declared.judging.Look.{Look}
-use Rattle.editor_group.specs.declared.judging.Look.TheVariants.{Confirmed, Silent, Refused}
+use Rattle.editor_group.specs.declared.judging.Look.TheVariants.{Confirmed, Refused}
 
 -- so many nodes were asked, and by what they said a ledger stands so: this was the last ticket that has its
 -- receipt, and that the newest release that was shown of its folder
@@ -43,10 +43,9 @@ Refuses folder waited _ = ⊥
 
 -- ---- what a dry run sees of it
 
--- a standing is shown as it is: a ledger that is not the newest is refused, and nothing was waited for
+-- a ledger that is not the newest is refused, and nothing was waited for
 abbrev pub Shows : List ℕ → Standing → Look → Type 0
 Shows folder Newest look = look ≡ Confirmed
-Shows folder Unanswered look = look ≡ Silent
 Shows folder _ (Refused why) = Refuses folder None why
 Shows folder _ _ = ⊥
 

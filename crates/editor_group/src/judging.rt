@@ -376,8 +376,6 @@ fn settled<R: Net<Stream = TcpStream> + Clock + AllocGlobal, E: Write>(
 pub enum Look {
     /// A node confirms that it is the newest of its editor.
     Confirmed,
-    /// No node answers.
-    Silent,
     /// A publication would be refused, unless this changes.
     Refused(EditorFault),
 }
@@ -400,7 +398,6 @@ pub fn look_at<R: Net<Stream = TcpStream> + Clock + AllocGlobal, E: Write>(
     group.speak_to(first);
     Ok(match standing {
         Standing::Newest => Look::Confirmed,
-        Standing::Unanswered => Look::Silent,
         found => Look::Refused(refused(rt.alloc(), folder, claim, found, None)),
     })
 }

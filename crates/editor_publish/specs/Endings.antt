@@ -1,9 +1,11 @@
 -- How a publication ends, as a status.
-use Rattle.std.specs.Prelude.{◌≡◌, ℕ, ◌-◌, ◌&&◌, if◌then◌else◌, Bool, true, ⊤}
+use Rattle.std.specs.Prelude.{◌≡◌, ℕ, ◌-◌, ◌==◌, ◌&&◌, if◌then◌else◌, Bool, true, ⊤}
 use Rattle.editor_ledger.specs.Books.{Book}
 use Rattle.editor_publish.specs.declared.dry_run.Found.{Found}
 use Rattle.editor_publish.specs.declared.ending.Ending.{Ending}
 use Rattle.editor_publish.specs.declared.ending.Ending.TheVariants.{Well, Bad, WouldSend}
+use Rattle.editor_publish.specs.declared.ending.Shown.{Shown}
+use Rattle.editor_publish.specs.declared.ending.Shown.TheVariants.{Whole, NotWhole}
 
 -- 1 is a fault, and 2 a command line that is none
 abbrev pub status_of : Ending → ℕ
@@ -11,9 +13,17 @@ status_of Well = 0
 status_of Bad = 1
 status_of WouldSend = 3
 
--- a dry run ends well, but where something would be sent and its status is to say so, or the group does not show the folder
+-- a release shows a folder, but for so many paths
+abbrev pub shown_but_for : ℕ → Shown
+shown_but_for paths = if paths == 0 then Whole else NotWhole
+
+abbrev pub ending_of : Shown → Ending
+ending_of Whole = Well
+ending_of NotWhole = Bad
+
+-- a dry run ends as a publication does, but if something would be sent and its status is to say so
 abbrev pub dry_ending : Found → Bool → Ending
-dry_ending found tells = if found.sends && tells then WouldSend else (if found.differs then Bad else Well)
+dry_ending found tells = if found.sends && tells then WouldSend else ending_of found.shown
 
 -- only a dry run whose status is to say so ends as one that found something to send
 abbrev pub MayEnd : Bool → Bool → Ending → Type 0

@@ -1,3 +1,4 @@
+pub mod Comparing
 pub mod Endings
 pub mod Numbers
 pub mod Taking

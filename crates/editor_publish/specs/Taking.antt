@@ -1,15 +1,11 @@
 -- Which paths are taken over, by what a node answers for each of them.
 use Rattle.std.specs.Prelude.{ℕ, ◌+◌, ◌==◌, ◌&&◌, not, List, [], ◌∷◌, Bool, true, false, if◌then◌else◌, Option, Some, None, string_bytes, slice_get, unwrap_or, Vec}
 use Rattle.std.specs.List.{list_any}
-use Rattle.std.specs.Str.{bytes_eq}
 use Rattle.std.specs.declared.alloc.Global.{Global}
 use Rattle.editor_folder.specs.declared.views.View.{View}
 use Rattle.editor_http.specs.declared.node_answer.NodeAnswer.{NodeAnswer}
 use Rattle.editor_plan.specs.Takings.{is_taken}
-
--- the answer is what the view shows
-abbrev pub shows : NodeAnswer → View → Bool
-shows answer view = answer.status == view.status && bytes_eq answer.body.items (string_bytes view.body)
+use Rattle.editor_publish.specs.Comparing.{shows}
 
 abbrev pub shows_some : NodeAnswer → Option View → Bool
 shows_some answer None = false

@@ -1,8 +1,8 @@
-//! Which pages a publication changes, and whether its release shows them.
+//! What a publication changes, and whether its release shows the folder.
 //!
-//! After an interrupted run all pages are compared, else those that changed.
+//! Each page of the folder is compared with the release, and each path where it has nothing any more.
 ghost use Rattle.std.specs.Prelude.{◌≡◌};
-ghost use Rattle.editor_publish.specs.Taking.{shows};
+ghost use Rattle.editor_publish.specs.Comparing.{is_compared, shows};
 
 use editor_common::{EditorFault, say_made};
 use editor_folder::{View, path_in, views_of};
@@ -15,11 +15,26 @@ use std::collections::BTreeSet;
 use std::io::Write;
 use std::net::{Net, TcpStream};
 
+/// What a node answers for a path where nothing is.
+const NOTHING: u16 = 404;
+
 /// A page that changes: what was shown before, as far as the ledger knows, and what is shown then.
 #[derive(Drop)]
 pub(crate) struct Change {
     pub before: u16,
     pub view: View,
+}
+
+impl Change {
+    /// Whether nothing was there before.
+    pub(crate) fn is_new(&self) -> bool {
+        self.before == NOTHING
+    }
+
+    /// Whether nothing is there any more.
+    pub(crate) fn goes(&self) -> bool {
+        self.view.status == NOTHING
+    }
 }
 
 /// The status of a page that another editor put, as far as a change tells it: something is there.
@@ -71,6 +86,35 @@ pub(crate) fn changes_of(
     let olds = views_of(alloc, before, &paths)?;
     let news = views_of(alloc, after, &paths)?;
     differing(alloc, &olds, news)
+}
+
+/// Whether a release is compared with the view of a path: the publication has a text about it, or leaves it to
+/// another editor.
+fn is_compared(status: u16, touched: bool, left: bool) -> bool
+    ensures { result ≡ is_compared status touched left }
+{
+    (status != NOTHING || touched) && !left
+}
+
+/// What the release of a publication has to show of these texts, of which it touches some, and leaves some
+/// paths to another editor.
+pub(crate) fn expected(
+    alloc: Global,
+    wanted: &[&str],
+    touched: &[&str],
+    left: &[String],
+) -> Result<Vec<View>, AllocError> {
+    let paths = paths_of(alloc, wanted, touched)?;
+    let mut about = BTreeSet::new(alloc);
+    add_paths(alloc, &mut about, touched)?;
+    let mut views = Vec::new(alloc);
+    for view in views_of(alloc, wanted, &paths)? {
+        let touched = about.contains(view.path.as_str());
+        if is_compared(view.status, touched, left.contains(&view.path)) {
+            views.push(view)?;
+        }
+    }
+    Ok(views)
 }
 
 /// The same changes but for the pages that are left to another editor, and the pages that are taken over.
@@ -187,21 +231,20 @@ fn tell_all<E: Write>(
     err: &mut E,
     url: &str,
     release: u64,
-    changes: &[Change],
+    views: &[View],
     answers: &[NodeAnswer],
 ) -> Result<Vec<String>, EditorFault> {
     let mut differing = Vec::new(alloc);
     let mut otherwise: usize = 0;
-    for (i, change) in changes.iter().enumerate() {
+    for (i, view) in views.iter().enumerate() {
         let answer = answers.get(i);
-        if !is_shown(answer, &change.view) {
-            let path = &change.view.path;
+        if !is_shown(answer, view) {
             let answered = is_answered(answer);
             if differing.len() < TOLD {
-                tell_difference(alloc, err, url, release, path.as_str(), answered)?;
+                tell_difference(alloc, err, url, release, view.path.as_str(), answered)?;
             }
             otherwise = otherwise.saturating_add(usize::from(answered));
-            differing.push(path.clone()?)?;
+            differing.push(view.path.clone()?)?;
         }
     }
     tell_more(alloc, err, url, release, differing.len())?;
@@ -209,30 +252,30 @@ fn tell_all<E: Write>(
     Ok(differing)
 }
 
-/// The answers of a node for the pages of a release that change.
+/// The answers of a node for the paths of these views in a release.
 fn pages_at<N: Net<Stream = TcpStream>>(
     net: &N,
     alloc: Global,
     node: &Address,
     release: u64,
-    changes: &[Change],
+    views: &[View],
 ) -> Result<Vec<NodeAnswer>, AllocError> {
-    let questions: Vec<Question<'_>> = changes
+    let questions: Vec<Question<'_>> = views
         .iter()
-        .map(|change| Question::Page(release, change.view.path.as_str()))
+        .map(|view| Question::Page(release, view.path.as_str()))
         .collect(alloc)?;
     ask(net, alloc, node, &questions)
 }
 
-/// Tells each page of a release that is not as the folder renders it. Their paths are the answer.
+/// Tells each page of a release that is not this view of it. Their paths are the answer.
 pub(crate) fn tell_differences<N: Net<Stream = TcpStream>, E: Write>(
     net: &N,
     alloc: Global,
     err: &mut E,
     node: &Address,
     release: u64,
-    changes: &[Change],
+    views: &[View],
 ) -> Result<Vec<String>, EditorFault> {
-    let answers = pages_at(net, alloc, node, release, changes)?;
-    tell_all(alloc, err, node.url.as_str(), release, changes, &answers)
+    let answers = pages_at(net, alloc, node, release, views)?;
+    tell_all(alloc, err, node.url.as_str(), release, views, &answers)
 }

@@ -1,5 +1,6 @@
 //! What would be published.
 use crate::comparing::{Change, changes_since, with_taken};
+use crate::ending::Shown;
 use crate::taking_over::{Taken, plan_again, with_staying};
 use editor_common::{EditorFault, Outcome, say, say_made};
 use editor_ledger::{Ledger, Sent};
@@ -13,8 +14,8 @@ use std::io::Write;
 pub(crate) struct Found {
     /// Something would be sent.
     pub sends: bool,
-    /// Nothing would be sent, and the group does not show the folder.
-    pub differs: bool,
+    /// If nothing would be sent, whether the group shows the folder.
+    pub shown: Shown,
 }
 
 /// The first line of a command.
@@ -53,10 +54,12 @@ fn tell_sent<W: Write>(alloc: Global, out: &mut W, sent: &[Sent]) -> Result<(), 
 
 /// What becomes of a page.
 fn change_name(change: &Change) -> &'static str {
-    match (change.before != 404, change.view.status) {
-        (false, _) => "is new",
-        (true, 404) => "goes",
-        (true, _) => "changes",
+    if change.is_new() {
+        "is new"
+    } else if change.goes() {
+        "goes"
+    } else {
+        "changes"
     }
 }
 
@@ -109,6 +112,14 @@ fn changes_by(
     }
 }
 
+/// The texts that stay though the folder has them no more, and those that are put again.
+fn kept_and_again(taken: Option<&Taken>) -> (&[String], &[String]) {
+    match taken {
+        Some(taken) => (taken.stays.as_slice(), taken.again.as_slice()),
+        None => (&[], &[]),
+    }
+}
+
 /// Tells what would be put and removed of a ledger with nothing on its way, and which pages change. Whether
 /// anything would be is the answer.
 fn tell_next<W: Write>(
@@ -120,10 +131,9 @@ fn tell_next<W: Write>(
     taken: Option<&Taken>,
 ) -> Result<bool, EditorFault> {
     let changes = changes_by(alloc, ledger, wanted, taken)?;
-    let texts = with_staying(alloc, wanted, taken)?;
-    if let Some(taken) = taken {
-        plan_again(alloc, ledger, &texts, &taken.again)?;
-    }
+    let (stays, again) = kept_and_again(taken);
+    let texts = with_staying(alloc, wanted, stays)?;
+    plan_again(alloc, ledger, &texts, again)?;
     let stage = advance(alloc, ledger, &texts)?;
     match stage {
         Stage::Done => {

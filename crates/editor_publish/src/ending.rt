@@ -1,7 +1,29 @@
-ghost use Rattle.std.specs.Prelude.{◌≡◌, if◌then◌else◌};
-ghost use Rattle.editor_publish.specs.Endings.{status_of, dry_ending};
+//! How a publication ends.
+ghost use Rattle.std.specs.Prelude.{◌≡◌};
+ghost use Rattle.editor_publish.specs.Endings.{shown_but_for, ending_of, dry_ending, status_of};
 
 use crate::dry_run::Found;
+
+/// Whether a release shows what a publication put into it.
+#[derive(Clone, Copy, Debug, Drop, PartialEq, Eq)]
+pub(crate) enum Shown {
+    Whole,
+    /// Some paths are not as the folder has them.
+    NotWhole,
+}
+
+impl Shown {
+    /// If so many paths are not as the folder has them.
+    pub(crate) fn but_for(paths: usize) -> Shown
+        ensures { result ≡ shown_but_for paths }
+    {
+        if paths == 0 {
+            Shown::Whole
+        } else {
+            Shown::NotWhole
+        }
+    }
+}
 
 /// How a publication ends.
 #[derive(Clone, Copy, Debug, Drop, PartialEq, Eq)]
@@ -15,11 +37,14 @@ pub(crate) enum Ending {
 }
 
 impl Ending {
-    /// Where something is wrong, or nothing.
-    pub(crate) fn of(bad: bool) -> Ending
-        ensures { result ≡ (if bad then Ending.Bad else Ending.Well) }
+    /// That of a publication.
+    pub(crate) fn of(shown: Shown) -> Ending
+        ensures { result ≡ ending_of shown }
     {
-        if bad { Ending::Bad } else { Ending::Well }
+        match shown {
+            Shown::Whole => Ending::Well,
+            Shown::NotWhole => Ending::Bad,
+        }
     }
 
     /// That of a dry run, and whether its status says that something would be sent.
@@ -29,7 +54,7 @@ impl Ending {
         if found.sends && tells {
             Ending::WouldSend
         } else {
-            Ending::of(found.differs)
+            Ending::of(found.shown)
         }
     }
 

@@ -1,18 +1,22 @@
 //! A publication under way.
-use crate::comparing::{Change, changes_of, changes_since, tell_differences, with_taken};
+use crate::asked::Asked;
+use crate::comparing::{expected, tell_differences};
 use crate::dry_run::{Found, tell_plan};
+use crate::ending::Shown;
 use crate::made::{
     Made, commands_of, is_exact, made_value, release_ticket, tell_made, unnumbered, untold,
 };
 use crate::taking_over::{
-    Taken, plan_again, refusal_of, taken_over, tell_left_over, tell_taken_over, with_staying,
+    Taken, others_have_put, plan_again, refusal_of, taken_over, tell_left_over, tell_paths,
+    tell_taken_over, with_staying,
 };
 use editor_common::{EditorFault, Outcome, say, texts_value};
-use editor_files::save;
+use editor_files::{lent, save};
+use editor_folder::View;
 use editor_group::{Group, Look, confirm, deliver, look_at, newest};
 use editor_ledger::{Ledger, Message, Released};
 use editor_options::PublishWord;
-use editor_plan::{Stage, advance, last_shown, unlogged};
+use editor_plan::{Stage, advance, last_shown, left_by, touched, unlogged};
 use serde_json::Value;
 use std::alloc::AllocError;
 use std::io::Write;
@@ -166,55 +170,104 @@ impl<R: Files + Net<Stream = TcpStream> + Clock + AllocGlobal, E: Write> Publish
         self.send_planned(false)
     }
 
-    /// Brings a folder of these texts into the group, some of them again, and releases it: the release that
-    /// was made last, or nothing where nothing has changed.
-    fn bring(&mut self, texts: &[&str], again: &[String]) -> Result<Option<Made>, EditorFault> {
+    /// Asks again for the paths that this publication adds, once its commands are in the log: it is refused if
+    /// another editor has put something there since, and releases nothing. The node gave the receipts of these
+    /// commands, so it has each release that came before them.
+    fn ask_again(&mut self, asked: &mut Asked, texts: &[&str]) -> Result<(), EditorFault> {
+        let alloc = self.rt.alloc();
+        let newest = self.newest()?;
+        if newest <= asked.release {
+            return Ok(());
+        }
+        let paths = asked.taken_in(self.rt, alloc, self.group.node()?, newest, texts)?;
+        asked.release = newest;
+        if paths.is_empty() {
+            return Ok(());
+        }
+        let left = left_by(self.ledger);
+        self.outcome
+            .put(alloc, "takes_over", texts_value(alloc, &paths)?)?;
+        tell_paths(alloc, self.err, "takes over", &paths)?;
+        tell_left_over(alloc, self.err, self.how.folder, left)?;
+        Err(others_have_put(alloc, left)?)
+    }
+
+    /// Sends what was planned: the release, if it was one. After commands the group is asked again for the paths
+    /// that are added.
+    fn send_next(
+        &mut self,
+        asked: &mut Asked,
+        texts: &[&str],
+    ) -> Result<Option<Made>, EditorFault> {
+        let made = self.send_planned(true)?;
+        if made.is_none() && !self.how.take_over {
+            self.ask_again(asked, texts)?;
+        }
+        Ok(made)
+    }
+
+    /// Brings a folder of these texts into the group, some of them again, beside those that stay though the
+    /// folder has them no more, and releases it: the release that was made last, or nothing where nothing has
+    /// changed.
+    fn bring(
+        &mut self,
+        asked: &mut Asked,
+        wanted: &[&str],
+        stays: &[String],
+        again: &[String],
+    ) -> Result<Option<Made>, EditorFault> {
         let mut made = self.send_left()?;
-        plan_again(self.rt.alloc(), self.ledger, texts, again)?;
+        let texts = with_staying(self.rt.alloc(), wanted, stays)?;
+        plan_again(self.rt.alloc(), self.ledger, &texts, again)?;
         for _ in 0..u64::MAX {
-            match advance(self.rt.alloc(), self.ledger, texts)? {
+            match advance(self.rt.alloc(), self.ledger, &texts)? {
                 Stage::Done => break,
-                Stage::Sends => made = self.send_planned(true)?.or(made),
+                Stage::Sends => made = self.send_next(asked, &texts)?.or(made),
             }
         }
         Ok(made)
     }
 
-    /// The pages that a publication of these texts changes, by what it takes over: all of them where one was
-    /// interrupted, since what it changed is not known any more.
-    fn changes(&self, wanted: &[&str], taken: &Taken) -> Result<Vec<Change>, AllocError> {
+    /// What the release of a publication of these texts has to show.
+    fn expected(&self, wanted: &[&str], left: &[String]) -> Result<Vec<View>, AllocError> {
         let alloc = self.rt.alloc();
-        let changes = if self.ledger.is_idle() && !self.ledger.has_unshown() {
-            changes_since(alloc, self.ledger, wanted)?
-        } else {
-            changes_of(alloc, &[], wanted)?
-        };
-        with_taken(alloc, changes, wanted, &taken.paths, &taken.left)
+        let touched = touched(alloc, self.ledger, wanted)?;
+        expected(alloc, wanted, &lent(alloc, &touched)?, left)
     }
 
-    /// Tells where a release does not show what changed. Whether it does not is the answer.
-    fn differs(&mut self, release: u64, changes: &[Change]) -> Result<bool, EditorFault> {
+    /// Whether a release shows what it has to. Each path at which it does not is told.
+    fn shown(&mut self, release: u64, views: &[View]) -> Result<Shown, EditorFault> {
         let alloc = self.rt.alloc();
         let node = self.group.node()?;
-        let paths = tell_differences(self.rt, alloc, self.err, node, release, changes)?;
-        let differs = !paths.is_empty();
+        let paths = tell_differences(self.rt, alloc, self.err, node, release, views)?;
         self.outcome
             .put(alloc, "not_shown", texts_value(alloc, &paths)?)?;
-        Ok(differs)
+        Ok(Shown::but_for(paths.len()))
     }
 
-    /// Tells that nothing has changed, once the group's newest release was seen to show the folder.
-    fn tell_same<W: Write>(&mut self, out: &mut W, wanted: &[&str]) -> Result<bool, EditorFault> {
+    /// Tells that nothing has changed, if the group's newest release shows the folder.
+    fn tell_same<W: Write>(&mut self, out: &mut W, views: &[View]) -> Result<Shown, EditorFault> {
         let release = self.newest()?;
-        let pages = changes_of(self.rt.alloc(), &[], wanted)?;
-        let differs = self.differs(release, &pages)?;
-        if !differs {
+        let shown = self.shown(release, views)?;
+        if shown == Shown::Whole {
             say(
                 out,
                 "nothing has changed since the last publication of this folder",
             )?;
         }
-        Ok(differs)
+        Ok(shown)
+    }
+
+    /// Tells a release that was made, and looks whether it shows what it has to.
+    fn tell_release<W: Write>(
+        &mut self,
+        out: &mut W,
+        made: Made,
+        views: &[View],
+    ) -> Result<Shown, EditorFault> {
+        self.keep_made("release", made)?;
+        tell_made(self.rt.alloc(), out, self.group.node()?.url.as_str(), made)?;
+        self.shown(made.release, views)
     }
 
     /// Nothing was to be sent: what is to be said of this publication is said of the release that an earlier
@@ -232,25 +285,26 @@ impl<R: Files + Net<Stream = TcpStream> + Clock + AllocGlobal, E: Write> Publish
     }
 
     /// Publishes texts whose ledger the group confirmed, and tells the release that was made, if one was.
-    /// Whether they are not shown then is the answer.
     fn publish_texts<W: Write>(
         &mut self,
         out: &mut W,
         wanted: &[&str],
-        taken: &Taken,
+        taken: Taken,
         found: Option<Made>,
-    ) -> Result<bool, EditorFault> {
-        let changes = self.changes(wanted, taken)?;
-        let texts = with_staying(self.rt.alloc(), wanted, Some(taken))?;
-        match self.bring(&texts, &taken.again)? {
-            Some(made) => {
-                self.keep_made("release", made)?;
-                tell_made(self.rt.alloc(), out, self.group.node()?.url.as_str(), made)?;
-                self.differs(made.release, &changes)
-            }
+    ) -> Result<Shown, EditorFault> {
+        let Taken {
+            again,
+            left,
+            stays,
+            mut asked,
+            ..
+        } = taken;
+        let views = self.expected(wanted, &left)?;
+        match self.bring(&mut asked, wanted, &stays, &again)? {
+            Some(made) => self.tell_release(out, made, &views),
             None => {
                 self.say_of_found(found)?;
-                self.tell_same(out, wanted)
+                self.tell_same(out, &views)
             }
         }
     }
@@ -297,20 +351,21 @@ impl<R: Files + Net<Stream = TcpStream> + Clock + AllocGlobal, E: Write> Publish
         &mut self,
         out: &mut W,
         wanted: &[&str],
-    ) -> Result<bool, EditorFault> {
+    ) -> Result<Shown, EditorFault> {
         let (folder, patience) = (self.how.folder, self.how.patience);
         confirm(self.rt, self.err, folder, self.group, self.ledger, patience)?;
         let found = self.note_unlogged(out)?;
         let taken = self.ask_to_take_over(wanted)?;
-        self.publish_texts(out, wanted, &taken, found)
+        self.publish_texts(out, wanted, taken, found)
     }
 
-    /// Tells which paths a publication of these texts would take over, as far as the node that is spoken to
-    /// says. What it would take over is the answer, if that node says it.
-    fn tell_paths<W: Write>(
+    /// Tells what a publication of these texts would take over: that is the answer, if the node that is spoken
+    /// to says it. Why a publication would be refused is kept.
+    fn tell_taken<W: Write>(
         &mut self,
         out: &mut W,
         wanted: &[&str],
+        refused: &mut Option<EditorFault>,
     ) -> Result<Option<Taken>, EditorFault> {
         match self.taken(wanted) {
             Ok(taken) => {
@@ -318,7 +373,7 @@ impl<R: Files + Net<Stream = TcpStream> + Clock + AllocGlobal, E: Write> Publish
                 Ok(Some(taken))
             }
             Err(EditorFault::Stop(why)) => {
-                say(self.err, why.as_str())?;
+                *refused = Some(EditorFault::Stop(why));
                 Ok(None)
             }
             Err(fault) => Err(fault),
@@ -337,8 +392,7 @@ impl<R: Files + Net<Stream = TcpStream> + Clock + AllocGlobal, E: Write> Publish
             return Ok(None);
         }
         match look_at(self.rt, self.err, self.how.folder, self.group, self.ledger)? {
-            Look::Confirmed => self.tell_paths(out, wanted),
-            Look::Silent => Ok(None),
+            Look::Confirmed => self.tell_taken(out, wanted, refused),
             Look::Refused(why) => {
                 *refused = Some(why);
                 Ok(None)
@@ -361,14 +415,14 @@ impl<R: Files + Net<Stream = TcpStream> + Clock + AllocGlobal, E: Write> Publish
         if let Some(why) = refused {
             return Err(why);
         }
-        let mut differs = false;
+        let mut shown = Shown::Whole;
         if let Some(taken) = taken {
             self.refuse(&taken)?;
             if !sends {
-                let pages = changes_of(self.rt.alloc(), &[], wanted)?;
-                differs = self.differs(taken.release, &pages)?;
+                let views = self.expected(wanted, &taken.left)?;
+                shown = self.shown(taken.release, &views)?;
             }
         }
-        Ok(Found { sends, differs })
+        Ok(Found { sends, shown })
     }
 }

@@ -10,19 +10,17 @@
 //!
 //! Names of templates, partials and data are not seen from outside: so a folder of which nothing has a
 //! receipt joins a group that has releases only if that is asked for.
-ghost use Rattle.std.specs.Prelude.{◌≡◌, map, slice_get, IfOk, string_bytes};
-ghost use Rattle.editor_publish.specs.Taking.{shows_some, is_own, takes, taken_of, others_of};
-
-use crate::comparing::{Change, add_paths, changes_of, shows};
+//!
+//! What another editor puts there only then, `asked.rt` finds.
+use crate::asked::{Asked, Compared, compare};
+use crate::comparing::{Change, add_paths, changes_of};
 use crate::made::untold;
 use crate::renewing::{apart_from, texts_of_pages};
 use editor_common::{EditorFault, say_made};
 use editor_files::lent;
-use editor_folder::{View, views_of};
-use editor_group::{Address, ask, newest};
-use editor_http::{NodeAnswer, Question};
+use editor_group::{Address, newest};
 use editor_ledger::{Ledger, LedgerFault};
-use editor_plan::{LeftOver, is_taken, joins, left_by, states_of, touched};
+use editor_plan::{LeftOver, joins, left_by, states_of, touched};
 use std::alloc::{AllocError, Global};
 use std::collections::BTreeSet;
 use std::io::Write;
@@ -43,14 +41,8 @@ pub(crate) struct Taken {
     pub stays: Vec<String>,
     pub joins: bool,
     pub left_over: LeftOver,
-}
-
-/// Of the paths that were compared, those that others took over, and those that the group does not show as
-/// the folder's: these, and paths where nothing is any more.
-#[derive(Drop)]
-struct Compared {
-    taken: Vec<String>,
-    others: Vec<String>,
+    /// The paths that are asked for again.
+    pub asked: Asked,
 }
 
 /// How many paths are told one by one.
@@ -70,23 +62,31 @@ fn paths_of(
     paths.into_iter().collect(alloc)
 }
 
-/// The paths that a publication compares, if the folder's last release had the first of these states: none if
-/// it puts and removes nothing.
-fn paths_compared(
+/// The pages that a publication changes, if the folder's last release had the first of these states: none if
+/// it touches no text.
+fn changes_by(
     alloc: Global,
-    ledger: &Ledger,
     states: &[Vec<String>],
     wanted: &[&str],
-) -> Result<Vec<String>, AllocError> {
-    let texts = touched(alloc, ledger, wanted)?;
-    let Some(released) = states.first() else {
-        return Ok(Vec::new(alloc));
-    };
-    if texts.is_empty() {
-        return Ok(Vec::new(alloc));
+    touched: &[String],
+) -> Result<Vec<Change>, AllocError> {
+    match states.first() {
+        Some(released) if !touched.is_empty() => {
+            changes_of(alloc, &lent(alloc, released)?, wanted)
+        }
+        _ => Ok(Vec::new(alloc)),
     }
-    let changes = changes_of(alloc, &lent(alloc, released)?, wanted)?;
-    paths_of(alloc, &changes, &texts)
+}
+
+/// The paths of the pages that are new.
+fn added(alloc: Global, changes: &[Change]) -> Result<Vec<String>, AllocError> {
+    let mut paths = Vec::new(alloc);
+    for change in changes {
+        if change.is_new() {
+            paths.push(change.view.path.clone()?)?;
+        }
+    }
+    Ok(paths)
 }
 
 /// These paths, and all that the wanted texts are about.
@@ -97,149 +97,6 @@ fn with_all(alloc: Global, paths: &[String], wanted: &[&str]) -> Result<Vec<Stri
     }
     add_paths(alloc, &mut all, wanted)?;
     all.into_iter().collect(alloc)
-}
-
-/// What is shown at paths by the folder's own texts: of each of its states, and as it is wanted.
-fn own_views(
-    alloc: Global,
-    states: &[Vec<String>],
-    wanted: &[&str],
-    paths: &[String],
-) -> Result<Vec<Vec<View>>, AllocError> {
-    let mut views = Vec::new(alloc);
-    views.push(views_of(alloc, wanted, paths)?)?;
-    for texts in states {
-        views.push(views_of(alloc, &lent(alloc, texts)?, paths)?)?;
-    }
-    Ok(views)
-}
-
-/// The answers of a node for paths of a release.
-fn answers_at<N: Net<Stream = TcpStream>>(
-    net: &N,
-    alloc: Global,
-    node: &Address,
-    release: u64,
-    paths: &[String],
-) -> Result<Vec<NodeAnswer>, AllocError> {
-    let questions: Vec<Question<'_>> = paths
-        .iter()
-        .map(|path| Question::Page(release, path.as_str()))
-        .collect(alloc)?;
-    ask(net, alloc, node, &questions)
-}
-
-/// Whether the view at that place is what was answered.
-fn shows_at(answer: &NodeAnswer, views: &[View], place: usize) -> bool
-    ensures { result ≡ shows_some answer.now (slice_get views.now place) }
-{
-    match views.get(place) {
-        Some(view) => shows(answer, view),
-        None => false,
-    }
-}
-
-/// Whether one of the folder's states shows what was answered at that place.
-fn is_own(answer: &NodeAnswer, states: &[Vec<View>], place: usize) -> bool
-    ensures { result ≡ is_own answer.now place states.now }
-{
-    states
-        .iter()
-        .any(|views| shows_at(answer, views.as_slice(), place))
-}
-
-/// A path that no node answered.
-fn unanswered(alloc: Global, url: &str, path: &str) -> Result<EditorFault, AllocError> {
-    Ok(EditorFault::Stop(format!(in alloc; "{url}{path}: was not answered")?))
-}
-
-/// Whether a path is taken over, by what a node answered for it; a status that no node gives is a fault.
-fn takes(
-    alloc: Global,
-    url: &str,
-    path: &str,
-    place: usize,
-    answer: &NodeAnswer,
-    states: &[Vec<View>],
-) -> Result<bool, EditorFault>
-    ensures { IfOk result (λ taken. taken ≡ takes answer.now place states.now) }
-{
-    match is_taken(answer.status, is_own(answer, states, place)) {
-        Some(taken) => Ok(taken),
-        None => Err(unanswered(alloc, url, path)?),
-    }
-}
-
-/// Those of the paths that are taken over, by a node's answers, if the folder's own texts show these
-/// views.
-fn taken_of(
-    alloc: Global,
-    url: &str,
-    paths: &[String],
-    answers: &[NodeAnswer],
-    states: &[Vec<View>],
-) -> Result<Vec<String>, EditorFault>
-    ensures { IfOk result (λ taken. map string_bytes taken.items
-        ≡ taken_of states.now 0 (map string_bytes paths.now) answers.now) }
-{
-    let mut taken = Vec::new(alloc);
-    for (i, path) in paths.iter().enumerate() {
-        let Some(answer) = answers.get(i) else {
-            return Err(unanswered(alloc, url, path.as_str())?);
-        };
-        if takes(alloc, url, path.as_str(), i, answer, states)? {
-            taken.push(path.clone()?)?;
-        }
-    }
-    Ok(taken)
-}
-
-/// Those of the paths that a node's answers do not show as the folder's own.
-fn others_of(
-    alloc: Global,
-    url: &str,
-    paths: &[String],
-    answers: &[NodeAnswer],
-    states: &[Vec<View>],
-) -> Result<Vec<String>, EditorFault>
-    ensures { IfOk result (λ others. map string_bytes others.items
-        ≡ others_of states.now 0 (map string_bytes paths.now) answers.now) }
-{
-    let mut others = Vec::new(alloc);
-    for (i, path) in paths.iter().enumerate() {
-        let Some(answer) = answers.get(i) else {
-            return Err(unanswered(alloc, url, path.as_str())?);
-        };
-        if !is_own(answer, states, i) {
-            others.push(path.clone()?)?;
-        }
-    }
-    Ok(others)
-}
-
-/// Compares paths with a node's release.
-fn compare<N: Net<Stream = TcpStream>>(
-    net: &N,
-    alloc: Global,
-    node: &Address,
-    release: u64,
-    states: &[Vec<String>],
-    wanted: &[&str],
-    paths: &[String],
-) -> Result<Compared, EditorFault> {
-    if release == 0 || paths.is_empty() {
-        return Ok(Compared {
-            taken: Vec::new(alloc),
-            others: Vec::new(alloc),
-        });
-    }
-    let answers = answers_at(net, alloc, node, release, paths)?;
-    let views = own_views(alloc, states, wanted, paths)?;
-    let url = node.url.as_str();
-    Ok(Compared {
-        taken: taken_of(alloc, url, paths, &answers, &views)?,
-        others: others_of(alloc, url, paths, &answers, &views)?,
-    })
 }
 
 /// Those of the paths that a wanted text is about, and those that none is.
@@ -268,21 +125,20 @@ fn compare_all<N: Net<Stream = TcpStream>>(
     alloc: Global,
     node: &Address,
     release: u64,
-    ledger: &Ledger,
+    states: &[Vec<String>],
     wanted: &[&str],
+    paths: &[String],
     take_over: bool,
 ) -> Result<Compared, EditorFault> {
-    let states = states_of(alloc, ledger)?;
-    let paths = paths_compared(alloc, ledger, &states, wanted)?;
-    let all = with_all(alloc, &paths, wanted)?;
+    let all = with_all(alloc, paths, wanted)?;
     if take_over {
-        return compare(net, alloc, node, release, &states, wanted, &all);
+        return compare(net, alloc, node, release, states, wanted, &all);
     }
-    let first = compare(net, alloc, node, release, &states, wanted, &paths)?;
+    let first = compare(net, alloc, node, release, states, wanted, paths)?;
     if all.len() == paths.len() || !is_about_some(alloc, &first.taken, wanted)? {
         return Ok(first);
     }
-    compare(net, alloc, node, release, &states, wanted, &all)
+    compare(net, alloc, node, release, states, wanted, &all)
 }
 
 /// Whether a wanted text is about one of the paths.
@@ -316,8 +172,11 @@ pub(crate) fn taken_over<N: Net<Stream = TcpStream>>(
     let Some(release) = newest(net, alloc, node)? else {
         return Err(untold(alloc, node.url.as_str())?);
     };
+    let (states, touched) = (states_of(alloc, ledger)?, touched(alloc, ledger, wanted)?);
+    let changes = changes_by(alloc, &states, wanted, &touched)?;
+    let compared = paths_of(alloc, &changes, &touched)?;
     let Compared { taken, others } = compare_all(
-        net, alloc, node, release, ledger, wanted, take_over,
+        net, alloc, node, release, &states, wanted, &compared, take_over,
     )?;
     let (paths, left) = if take_over {
         (taken, Vec::new(alloc))
@@ -332,6 +191,11 @@ pub(crate) fn taken_over<N: Net<Stream = TcpStream>>(
         left,
         joins: joins(ledger.kept().len(), release),
         left_over: left_by(ledger),
+        asked: Asked {
+            release,
+            paths: added(alloc, &changes)?,
+            states,
+        },
     })
 }
 
@@ -339,13 +203,11 @@ pub(crate) fn taken_over<N: Net<Stream = TcpStream>>(
 pub(crate) fn with_staying<'a>(
     alloc: Global,
     wanted: &[&'a str],
-    taken: Option<&'a Taken>,
+    stays: &'a [String],
 ) -> Result<Vec<&'a str>, AllocError> {
     let mut texts = Vec::from_slice(alloc, wanted)?;
-    if let Some(taken) = taken {
-        for text in &taken.stays {
-            texts.push(text.as_str())?;
-        }
+    for text in stays {
+        texts.push(text.as_str())?;
     }
     Ok(texts)
 }
@@ -363,14 +225,26 @@ pub(crate) fn plan_again(
     ledger.plan_again(alloc, texts, again)
 }
 
-/// Why nothing was sent of what a publication would take over; `None` if it takes over nothing.
-pub(crate) fn refusal_of(alloc: Global, taken: &Taken) -> Result<Option<EditorFault>, AllocError> {
-    let release = taken.release;
-    let nothing = if taken.left_over.is_none() {
+/// What was sent of a publication that is refused, if so much of its folder is in the log already.
+fn what_was_sent(left: LeftOver) -> &'static str {
+    if left.is_none() {
         "nothing"
     } else {
         "nothing more"
-    };
+    }
+}
+
+/// Why a publication goes no further that would replace or remove what others have put.
+pub(crate) fn others_have_put(alloc: Global, left: LeftOver) -> Result<EditorFault, AllocError> {
+    let nothing = what_was_sent(left);
+    Ok(EditorFault::Stop(format!(in alloc;
+        "{nothing} was sent: others have put what this folder would replace or remove. With --take-over the paths above become this folder's"
+    )?))
+}
+
+/// Why nothing was sent of what a publication would take over; `None` if it takes over nothing.
+pub(crate) fn refusal_of(alloc: Global, taken: &Taken) -> Result<Option<EditorFault>, AllocError> {
+    let (release, nothing) = (taken.release, what_was_sent(taken.left_over));
     if taken.joins {
         return Ok(Some(EditorFault::Stop(format!(in alloc;
             "{nothing} was sent: the group has release {release}, and nothing in it is known to be from this folder. If others have templates, partials or data of the same names, this folder would replace them, which no node tells. With --take-over it does"
@@ -379,12 +253,10 @@ pub(crate) fn refusal_of(alloc: Global, taken: &Taken) -> Result<Option<EditorFa
     if taken.paths.is_empty() {
         return Ok(None);
     }
-    Ok(Some(EditorFault::Stop(format!(in alloc;
-        "{nothing} was sent: others have put what this folder would replace or remove. With --take-over the paths above become this folder's"
-    )?)))
+    Ok(Some(others_have_put(alloc, taken.left_over)?))
 }
 
-/// Tells what an interrupted run of a folder left in the log, if it left something.
+/// Tells which commands of a folder are in the log though no release of it has them, if there are some.
 pub(crate) fn tell_left_over<E: Write>(
     alloc: Global,
     err: &mut E,
@@ -402,13 +274,13 @@ pub(crate) fn tell_left_over<E: Write>(
     say_made(
         err,
         format!(in alloc;
-            "{folder}: commands that an interrupted run left in the log: {least} at least, {most} at most. They go live with the next release that any editor makes"
+            "{folder}: commands of this folder that are in the log without a release of it: {least} at least, {most} at most. They go live with the next release that any editor makes"
         ),
     )
 }
 
 /// Tells paths after a word, the first of them one by one.
-fn tell_paths<E: Write>(
+pub(crate) fn tell_paths<E: Write>(
     alloc: Global,
     err: &mut E,
     what: &str,

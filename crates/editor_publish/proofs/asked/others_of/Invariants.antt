@@ -1,6 +1,6 @@
 use Rattle.std.proofs.Common.{◌≡◌, ◌++◌, map, drop, string_bytes}
 use Rattle.editor_publish.specs.Taking.{others_of}
-use Rattle.editor_publish.proofs.taking_over.others_of.Given as goal
+use Rattle.editor_publish.proofs.asked.others_of.Given as goal
 
 -- those so far, and those of the paths that are left
 abbrev pub invariant-loop-i : goal.invariant-loop-i

@@ -1,6 +1,6 @@
 use Rattle.std.proofs.Common.{◌≡◌, ◌++◌, map, drop, string_bytes}
 use Rattle.editor_publish.specs.Taking.{taken_of}
-use Rattle.editor_publish.proofs.taking_over.taken_of.Given as goal
+use Rattle.editor_publish.proofs.asked.taken_of.Given as goal
 
 -- those so far, and those of the paths that are left
 abbrev pub invariant-loop-i : goal.invariant-loop-i

@@ -1,0 +1,192 @@
+//! Paths that a publication asks a group for: which of them are another's.
+//!
+//! They are asked for before anything is sent. Another editor may add one of the paths at the same moment: so
+//! those that are new are asked for again once the folder's commands are in the log, before they are
+//! released.
+ghost use Rattle.std.specs.Prelude.{◌≡◌, map, slice_get, IfOk, string_bytes};
+ghost use Rattle.editor_publish.specs.Taking.{shows_some, is_own, takes, taken_of, others_of};
+
+use crate::comparing::shows;
+use editor_common::EditorFault;
+use editor_files::lent;
+use editor_folder::{View, views_of};
+use editor_group::{Address, ask};
+use editor_http::{NodeAnswer, Question};
+use editor_plan::is_taken;
+use std::alloc::{AllocError, Global};
+use std::net::{Net, TcpStream};
+
+/// The paths that a publication adds, and the release in which nothing was there.
+#[derive(Drop)]
+pub(crate) struct Asked {
+    pub release: u64,
+    pub paths: Vec<String>,
+    /// The folder's texts as a release may have them (`states_of` in `editor_plan`).
+    pub states: Vec<Vec<String>>,
+}
+
+/// Of the paths that were compared, those that others took over, and those that the group does not show as
+/// the folder's: these, and paths where nothing is any more.
+#[derive(Drop)]
+pub(crate) struct Compared {
+    pub taken: Vec<String>,
+    pub others: Vec<String>,
+}
+
+/// What is shown at paths by the folder's own texts: of each of its states, and as it is wanted.
+fn own_views(
+    alloc: Global,
+    states: &[Vec<String>],
+    wanted: &[&str],
+    paths: &[String],
+) -> Result<Vec<Vec<View>>, AllocError> {
+    let mut views = Vec::new(alloc);
+    views.push(views_of(alloc, wanted, paths)?)?;
+    for texts in states {
+        views.push(views_of(alloc, &lent(alloc, texts)?, paths)?)?;
+    }
+    Ok(views)
+}
+
+/// The answers of a node for paths of a release.
+fn answers_at<N: Net<Stream = TcpStream>>(
+    net: &N,
+    alloc: Global,
+    node: &Address,
+    release: u64,
+    paths: &[String],
+) -> Result<Vec<NodeAnswer>, AllocError> {
+    let questions: Vec<Question<'_>> = paths
+        .iter()
+        .map(|path| Question::Page(release, path.as_str()))
+        .collect(alloc)?;
+    ask(net, alloc, node, &questions)
+}
+
+/// Whether the view at that place is what was answered.
+fn shows_at(answer: &NodeAnswer, views: &[View], place: usize) -> bool
+    ensures { result ≡ shows_some answer.now (slice_get views.now place) }
+{
+    match views.get(place) {
+        Some(view) => shows(answer, view),
+        None => false,
+    }
+}
+
+/// Whether one of the folder's states shows what was answered at that place.
+fn is_own(answer: &NodeAnswer, states: &[Vec<View>], place: usize) -> bool
+    ensures { result ≡ is_own answer.now place states.now }
+{
+    states
+        .iter()
+        .any(|views| shows_at(answer, views.as_slice(), place))
+}
+
+/// A path that no node answered.
+fn unanswered(alloc: Global, url: &str, path: &str) -> Result<EditorFault, AllocError> {
+    Ok(EditorFault::Stop(format!(in alloc; "{url}{path}: was not answered")?))
+}
+
+/// Whether a path is taken over, by what a node answered for it; a status that no node gives is a fault.
+fn takes(
+    alloc: Global,
+    url: &str,
+    path: &str,
+    place: usize,
+    answer: &NodeAnswer,
+    states: &[Vec<View>],
+) -> Result<bool, EditorFault>
+    ensures { IfOk result (λ taken. taken ≡ takes answer.now place states.now) }
+{
+    match is_taken(answer.status, is_own(answer, states, place)) {
+        Some(taken) => Ok(taken),
+        None => Err(unanswered(alloc, url, path)?),
+    }
+}
+
+/// Those of the paths that are taken over, by a node's answers, if the folder's own texts show these
+/// views.
+fn taken_of(
+    alloc: Global,
+    url: &str,
+    paths: &[String],
+    answers: &[NodeAnswer],
+    states: &[Vec<View>],
+) -> Result<Vec<String>, EditorFault>
+    ensures { IfOk result (λ taken. map string_bytes taken.items
+        ≡ taken_of states.now 0 (map string_bytes paths.now) answers.now) }
+{
+    let mut taken = Vec::new(alloc);
+    for (i, path) in paths.iter().enumerate() {
+        let Some(answer) = answers.get(i) else {
+            return Err(unanswered(alloc, url, path.as_str())?);
+        };
+        if takes(alloc, url, path.as_str(), i, answer, states)? {
+            taken.push(path.clone()?)?;
+        }
+    }
+    Ok(taken)
+}
+
+/// Those of the paths that a node's answers do not show as the folder's own.
+fn others_of(
+    alloc: Global,
+    url: &str,
+    paths: &[String],
+    answers: &[NodeAnswer],
+    states: &[Vec<View>],
+) -> Result<Vec<String>, EditorFault>
+    ensures { IfOk result (λ others. map string_bytes others.items
+        ≡ others_of states.now 0 (map string_bytes paths.now) answers.now) }
+{
+    let mut others = Vec::new(alloc);
+    for (i, path) in paths.iter().enumerate() {
+        let Some(answer) = answers.get(i) else {
+            return Err(unanswered(alloc, url, path.as_str())?);
+        };
+        if !is_own(answer, states, i) {
+            others.push(path.clone()?)?;
+        }
+    }
+    Ok(others)
+}
+
+/// Compares paths with a node's release.
+pub(crate) fn compare<N: Net<Stream = TcpStream>>(
+    net: &N,
+    alloc: Global,
+    node: &Address,
+    release: u64,
+    states: &[Vec<String>],
+    wanted: &[&str],
+    paths: &[String],
+) -> Result<Compared, EditorFault> {
+    if release == 0 || paths.is_empty() {
+        return Ok(Compared {
+            taken: Vec::new(alloc),
+            others: Vec::new(alloc),
+        });
+    }
+    let answers = answers_at(net, alloc, node, release, paths)?;
+    let views = own_views(alloc, states, wanted, paths)?;
+    let url = node.url.as_str();
+    Ok(Compared {
+        taken: taken_of(alloc, url, paths, &answers, &views)?,
+        others: others_of(alloc, url, paths, &answers, &views)?,
+    })
+}
+
+impl Asked {
+    /// Those of the paths that are another's in a later release of a node, if the folder has these texts.
+    pub(crate) fn taken_in<N: Net<Stream = TcpStream>>(
+        &self,
+        net: &N,
+        alloc: Global,
+        node: &Address,
+        release: u64,
+        texts: &[&str],
+    ) -> Result<Vec<String>, EditorFault> {
+        let found = compare(net, alloc, node, release, &self.states, texts, &self.paths)?;
+        Ok(found.taken)
+    }
+}
