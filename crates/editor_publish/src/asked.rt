@@ -1,12 +1,13 @@
 //! Paths that a publication asks a group for: which of them are another's.
 //!
-//! They are asked for before anything is sent. Another editor may add one of the paths at the same moment: so
-//! those that are new are asked for again once the folder's commands are in the log, before they are
-//! released.
+//! They are asked for before anything is sent. Another editor may put something at one of the paths at the same
+//! moment: so they are asked for again once the folder's commands are in the log, before they are released. The
+//! other editor's release may show a part of these commands, as they came into the log one after another.
 ghost use Rattle.std.specs.Prelude.{◌≡◌, map, slice_get, IfOk, string_bytes};
 ghost use Rattle.editor_publish.specs.Taking.{shows_some, is_own, takes, taken_of, others_of};
 
 use crate::comparing::shows;
+use crate::renewing::{Course, course_of};
 use editor_common::EditorFault;
 use editor_files::lent;
 use editor_folder::{View, views_of};
@@ -16,11 +17,13 @@ use editor_plan::is_taken;
 use std::alloc::{AllocError, Global};
 use std::net::{Net, TcpStream};
 
-/// The paths that a publication adds, and the release in which nothing was there.
+/// The paths that a publication changes, adds or removes, and the newest release that was asked for them.
 #[derive(Drop)]
 pub(crate) struct Asked {
     pub release: u64,
     pub paths: Vec<String>,
+    /// Those that are taken over.
+    pub taken: Vec<String>,
     /// The folder's texts as a release may have them (`states_of` in `editor_plan`).
     pub states: Vec<Vec<String>>,
 }
@@ -177,7 +180,35 @@ pub(crate) fn compare<N: Net<Stream = TcpStream>>(
 }
 
 impl Asked {
-    /// Those of the paths that are another's in a later release of a node, if the folder has these texts.
+    /// Whether a path is shown so once the first texts of a plan are in the log, and the others are not.
+    fn is_between(
+        &self,
+        alloc: Global,
+        plan: &[&str],
+        path: &str,
+        answer: &NodeAnswer,
+    ) -> Result<bool, AllocError> {
+        let Some(before) = self.states.last() else {
+            return Ok(false);
+        };
+        let mut paths = Vec::new(alloc);
+        paths.push(String::from_str(alloc, path)?)?;
+        let before = lent(alloc, before)?;
+        let Course {
+            before: mut texts,
+            steps,
+        } = course_of(alloc, &before, plan, &paths)?;
+        for step in &steps {
+            texts.push(*step)?;
+            if shows_at(answer, &views_of(alloc, &texts, &paths)?, 0) {
+                return Ok(true);
+            }
+        }
+        Ok(false)
+    }
+
+    /// Those of the paths that are another's in a later release of a node, if the folder has these texts, and
+    /// this plan made them.
     pub(crate) fn taken_in<N: Net<Stream = TcpStream>>(
         &self,
         net: &N,
@@ -185,8 +216,16 @@ impl Asked {
         node: &Address,
         release: u64,
         texts: &[&str],
+        plan: &[&str],
     ) -> Result<Vec<String>, EditorFault> {
         let found = compare(net, alloc, node, release, &self.states, texts, &self.paths)?;
-        Ok(found.taken)
+        let answers = answers_at(net, alloc, node, release, &found.taken)?;
+        let mut taken = Vec::new(alloc);
+        for (path, answer) in found.taken.into_iter().zip(&answers) {
+            if !self.is_between(alloc, plan, path.as_str(), answer)? {
+                taken.push(path)?;
+            }
+        }
+        Ok(taken)
     }
 }

@@ -96,12 +96,13 @@ fn is_compared(status: u16, touched: bool, left: bool) -> bool
     (status != NOTHING || touched) && !left
 }
 
-/// What the release of a publication has to show of these texts, of which it touches some, and leaves some
-/// paths to another editor.
+/// What the release of a publication has to show of these texts, of which it touches some, or speaks of all,
+/// and leaves some paths to another editor.
 pub(crate) fn expected(
     alloc: Global,
     wanted: &[&str],
     touched: &[&str],
+    all: bool,
     left: &[String],
 ) -> Result<Vec<View>, AllocError> {
     let paths = paths_of(alloc, wanted, touched)?;
@@ -109,7 +110,7 @@ pub(crate) fn expected(
     add_paths(alloc, &mut about, touched)?;
     let mut views = Vec::new(alloc);
     for view in views_of(alloc, wanted, &paths)? {
-        let touched = about.contains(view.path.as_str());
+        let touched = all || about.contains(view.path.as_str());
         if is_compared(view.status, touched, left.contains(&view.path)) {
             views.push(view)?;
         }
@@ -219,7 +220,7 @@ fn tell_why<E: Write>(alloc: Global, err: &mut E, otherwise: usize) -> Result<()
     say_made(
         err,
         format!(in alloc;
-            "pages that this folder renders otherwise: {otherwise}. Another editor has put or removed a name that they use, or another copy of this folder was published at the same time. To put these pages again publish with --take-over"
+            "pages that this folder renders otherwise: {otherwise}. Another editor has taken their paths over, or has put or removed a name that they use, or another copy of this folder was published at the same time. To put these pages again publish with --take-over"
         ),
     )
 }

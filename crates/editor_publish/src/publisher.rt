@@ -170,38 +170,57 @@ impl<R: Files + Net<Stream = TcpStream> + Clock + AllocGlobal, E: Write> Publish
         self.send_planned(false)
     }
 
-    /// Asks again for the paths that this publication adds, once its commands are in the log: it is refused if
-    /// another editor has put something there since, and releases nothing. The node gave the receipts of these
-    /// commands, so it has each release that came before them.
-    fn ask_again(&mut self, asked: &mut Asked, texts: &[&str]) -> Result<(), EditorFault> {
+    /// Asks again for the paths that this publication changes, once its commands, this plan, are in the log: if
+    /// another editor has put something at one since, it is taken over, or the publication is refused and
+    /// releases nothing. The node gave the receipts of these commands, so it has each release that came before
+    /// them.
+    fn ask_again(
+        &mut self,
+        asked: &mut Asked,
+        texts: &[&str],
+        plan: &[String],
+    ) -> Result<(), EditorFault> {
         let alloc = self.rt.alloc();
         let newest = self.newest()?;
         if newest <= asked.release {
             return Ok(());
         }
-        let paths = asked.taken_in(self.rt, alloc, self.group.node()?, newest, texts)?;
+        let (node, plan) = (self.group.node()?, lent(alloc, plan)?);
+        let mut paths = asked.taken_in(self.rt, alloc, node, newest, texts, &plan)?;
         asked.release = newest;
-        if paths.is_empty() {
-            return Ok(());
-        }
-        let left = left_by(self.ledger);
-        self.outcome
-            .put(alloc, "takes_over", texts_value(alloc, &paths)?)?;
         tell_paths(alloc, self.err, "takes over", &paths)?;
-        tell_left_over(alloc, self.err, self.how.folder, left)?;
-        Err(others_have_put(alloc, left)?)
+        let found = !paths.is_empty();
+        asked.taken.append(&mut paths)?;
+        self.outcome
+            .put(alloc, "takes_over", texts_value(alloc, &asked.taken)?)?;
+        if found && !self.how.take_over {
+            let left = left_by(self.ledger);
+            tell_left_over(alloc, self.err, self.how.folder, left)?;
+            return Err(others_have_put(alloc, left)?);
+        }
+        Ok(())
+    }
+
+    /// The texts that are on their way.
+    fn plan(&self) -> Result<Vec<String>, AllocError> {
+        let mut texts = Vec::new(self.rt.alloc());
+        for sent in self.ledger.sent() {
+            texts.push(sent.text.clone()?)?;
+        }
+        Ok(texts)
     }
 
     /// Sends what was planned: the release, if it was one. After commands the group is asked again for the paths
-    /// that are added.
+    /// that they change.
     fn send_next(
         &mut self,
         asked: &mut Asked,
         texts: &[&str],
     ) -> Result<Option<Made>, EditorFault> {
+        let plan = self.plan()?;
         let made = self.send_planned(true)?;
-        if made.is_none() && !self.how.take_over {
-            self.ask_again(asked, texts)?;
+        if made.is_none() {
+            self.ask_again(asked, texts, &plan)?;
         }
         Ok(made)
     }
@@ -228,11 +247,13 @@ impl<R: Files + Net<Stream = TcpStream> + Clock + AllocGlobal, E: Write> Publish
         Ok(made)
     }
 
-    /// What the release of a publication of these texts has to show.
+    /// What the release of a publication of these texts has to show. A folder says itself what it removes; of
+    /// a release of before only what changes counts.
     fn expected(&self, wanted: &[&str], left: &[String]) -> Result<Vec<View>, AllocError> {
         let alloc = self.rt.alloc();
         let touched = touched(alloc, self.ledger, wanted)?;
-        expected(alloc, wanted, &lent(alloc, &touched)?, left)
+        let all = self.how.release.is_none();
+        expected(alloc, wanted, &lent(alloc, &touched)?, all, left)
     }
 
     /// Whether a release shows what it has to. Each path at which it does not is told.
@@ -293,12 +314,14 @@ impl<R: Files + Net<Stream = TcpStream> + Clock + AllocGlobal, E: Write> Publish
         found: Option<Made>,
     ) -> Result<Shown, EditorFault> {
         let Taken {
+            paths,
             again,
             left,
             stays,
             mut asked,
             ..
         } = taken;
+        asked.taken = paths;
         let views = self.expected(wanted, &left)?;
         match self.bring(&mut asked, wanted, &stays, &again)? {
             Some(made) => self.tell_release(out, made, &views),

@@ -1,10 +1,11 @@
-//! The texts by which pages of a folder come about.
+//! The texts by which pages of a folder come about, or go.
+use editor_files::lent;
 use std::alloc::{AllocError, Global};
 use std::collections::BTreeSet;
 
-/// What a text puts, by its first line.
+/// What a text puts or removes, by its first line.
 #[derive(Clone, Copy)]
-struct Put<'a> {
+struct Subject<'a> {
     kind: &'a str,
     name: &'a str,
     /// The names of the template and of the data, if it puts a route.
@@ -12,12 +13,13 @@ struct Put<'a> {
     page_data: Option<&'a str>,
 }
 
-fn put_in(text: &str) -> Option<Put<'_>> {
+fn subject_in(text: &str) -> Option<Subject<'_>> {
     let mut words = text.lines().next()?.split(' ');
-    if words.next()? != "put" {
+    let verb = words.next()?;
+    if verb != "put" && verb != "remove" {
         return None;
     }
-    Some(Put {
+    Some(Subject {
         kind: words.next()?,
         name: words.next()?,
         template: words.next(),
@@ -47,40 +49,40 @@ impl<'a> Parts<'a> {
     }
 
     /// Notes what a route names, if it is at one of the paths.
-    fn note(&mut self, put: Put<'a>) -> Result<(), AllocError> {
-        if put.kind != "route" || !self.paths.contains(put.name) {
+    fn note(&mut self, subject: Subject<'a>) -> Result<(), AllocError> {
+        if subject.kind != "route" || !self.paths.contains(subject.name) {
             return Ok(());
         }
-        if let Some(name) = put.template {
+        if let Some(name) = subject.template {
             let _ = self.templates.insert(name)?;
         }
-        if let Some(name) = put.page_data {
+        if let Some(name) = subject.page_data {
             let _ = self.page_data.insert(name)?;
         }
         Ok(())
     }
 
-    fn has(&self, put: Put<'_>) -> bool {
-        match put.kind {
-            "route" | "redirect" => self.paths.contains(put.name),
-            "template" => self.templates.contains(put.name),
-            "data" => self.page_data.contains(put.name),
+    fn has(&self, subject: Subject<'_>) -> bool {
+        match subject.kind {
+            "route" | "redirect" => self.paths.contains(subject.name),
+            "template" => self.templates.contains(subject.name),
+            "data" => self.page_data.contains(subject.name),
             _ => false,
         }
     }
 }
 
-/// Which texts put the pages at these paths, and the templates and data that these name.
-fn put_at(alloc: Global, texts: &[&str], paths: &[String]) -> Result<Vec<bool>, AllocError> {
+/// Which texts put or remove the pages at these paths, and the templates and data that these name.
+fn are_at(alloc: Global, texts: &[&str], paths: &[String]) -> Result<Vec<bool>, AllocError> {
     let mut parts = Parts::at(alloc, paths)?;
     for text in texts {
-        if let Some(put) = put_in(text) {
-            parts.note(put)?;
+        if let Some(subject) = subject_in(text) {
+            parts.note(subject)?;
         }
     }
     let mut are = Vec::with_capacity(alloc, texts.len())?;
     for text in texts {
-        are.push(put_in(text).is_some_and(|put| parts.has(put)))?;
+        are.push(subject_in(text).is_some_and(|subject| parts.has(subject)))?;
     }
     Ok(are)
 }
@@ -100,10 +102,10 @@ fn add_partials(texts: &[&str], are: &mut [bool]) -> bool {
         if are.get(i).copied().unwrap_or(true) {
             continue;
         }
-        let Some(put) = put_in(text) else {
+        let Some(subject) = subject_in(text) else {
             continue;
         };
-        if put.kind == "partial" && is_called(texts, are, put.name) {
+        if subject.kind == "partial" && is_called(texts, are, subject.name) {
             if let Some(is) = are.get_mut(i) {
                 *is = true;
                 added = true;
@@ -113,8 +115,9 @@ fn add_partials(texts: &[&str], are: &mut [bool]) -> bool {
     added
 }
 
-/// Those of the texts by which the pages at these paths come about: their routes and redirects, the templates
-/// and data that the routes name, and the partials whose names stand in one of these, as a call has it.
+/// Those of the texts by which the pages at these paths come about, or go: their routes and redirects, the
+/// templates and data that the routes name, and the partials whose names stand in one of these, as a call has
+/// it.
 pub(crate) fn texts_of_pages(
     alloc: Global,
     texts: &[&str],
@@ -124,7 +127,7 @@ pub(crate) fn texts_of_pages(
     if paths.is_empty() {
         return Ok(found);
     }
-    let mut are = put_at(alloc, texts, paths)?;
+    let mut are = are_at(alloc, texts, paths)?;
     for _ in 0..texts.len() {
         if !add_partials(texts, are.as_mut_slice()) {
             break;
@@ -175,4 +178,48 @@ pub(crate) fn apart_from(
         }
     }
     Ok(apart)
+}
+
+/// Those of the texts that are about one of these subjects.
+fn about<'a>(
+    alloc: Global,
+    texts: &[&'a str],
+    subjects: &BTreeSet<String>,
+) -> Result<Vec<&'a str>, AllocError> {
+    let mut found = Vec::new(alloc);
+    for text in texts {
+        if let Some(subject) = subject_of(alloc, text)? {
+            if subjects.contains(subject.as_str()) {
+                found.push(*text)?;
+            }
+        }
+    }
+    Ok(found)
+}
+
+/// Texts by which a page comes about while a plan comes into the log: those from before, and those of the plan,
+/// in order.
+#[derive(Drop)]
+pub(crate) struct Course<'a> {
+    pub before: Vec<&'a str>,
+    pub steps: Vec<&'a str>,
+}
+
+/// The course of the pages at these paths, from these texts by that plan.
+pub(crate) fn course_of<'a>(
+    alloc: Global,
+    before: &[&'a str],
+    plan: &[&'a str],
+    paths: &[String],
+) -> Result<Course<'a>, AllocError> {
+    let mut all = Vec::from_slice(alloc, before)?;
+    for text in plan {
+        all.push(*text)?;
+    }
+    let pages = texts_of_pages(alloc, &all, paths)?;
+    let subjects = subjects_of(alloc, &lent(alloc, &pages)?)?;
+    Ok(Course {
+        before: about(alloc, before, &subjects)?,
+        steps: about(alloc, plan, &subjects)?,
+    })
 }

@@ -78,17 +78,6 @@ fn changes_by(
     }
 }
 
-/// The paths of the pages that are new.
-fn added(alloc: Global, changes: &[Change]) -> Result<Vec<String>, AllocError> {
-    let mut paths = Vec::new(alloc);
-    for change in changes {
-        if change.is_new() {
-            paths.push(change.view.path.clone()?)?;
-        }
-    }
-    Ok(paths)
-}
-
 /// These paths, and all that the wanted texts are about.
 fn with_all(alloc: Global, paths: &[String], wanted: &[&str]) -> Result<Vec<String>, AllocError> {
     let mut all = BTreeSet::new(alloc);
@@ -99,23 +88,60 @@ fn with_all(alloc: Global, paths: &[String], wanted: &[&str]) -> Result<Vec<Stri
     all.into_iter().collect(alloc)
 }
 
-/// Those of the paths that a wanted text is about, and those that none is.
+/// The paths that commands of a folder are about which no release of it has: they are in the log, or on their
+/// way there.
+fn unreleased(alloc: Global, ledger: &Ledger) -> Result<BTreeSet<String>, AllocError> {
+    let last = ledger.last_release();
+    let mut paths = BTreeSet::new(alloc);
+    for had in ledger.past() {
+        if last < had.since {
+            add_paths(alloc, &mut paths, &[had.text.as_str()])?;
+        }
+    }
+    Ok(paths)
+}
+
+/// Those of the paths that are among the first ones, and the others.
 fn parted(
     alloc: Global,
     paths: Vec<String>,
-    wanted: &[&str],
+    first: &BTreeSet<String>,
 ) -> Result<(Vec<String>, Vec<String>), AllocError> {
-    let mut about = BTreeSet::new(alloc);
-    add_paths(alloc, &mut about, wanted)?;
-    let (mut some, mut none) = (Vec::new(alloc), Vec::new(alloc));
+    let (mut some, mut others) = (Vec::new(alloc), Vec::new(alloc));
     for path in paths {
-        if about.contains(path.as_str()) {
+        if first.contains(path.as_str()) {
             some.push(path)?;
         } else {
-            none.push(path)?;
+            others.push(path)?;
         }
     }
-    Ok((some, none))
+    Ok((some, others))
+}
+
+/// What is taken over of those paths that are another's, and what is left to the other: what the folder only
+/// has no more, if none of its commands about that may still be released.
+fn taken_and_left(
+    alloc: Global,
+    ledger: &Ledger,
+    wanted: &[&str],
+    paths: Vec<String>,
+    take_over: bool,
+) -> Result<(Vec<String>, Vec<String>), AllocError> {
+    if take_over {
+        return Ok((paths, Vec::new(alloc)));
+    }
+    let mut about = unreleased(alloc, ledger)?;
+    add_paths(alloc, &mut about, wanted)?;
+    parted(alloc, paths, &about)
+}
+
+/// Those of the paths that are not among these.
+fn without(alloc: Global, paths: Vec<String>, these: &[String]) -> Result<Vec<String>, AllocError> {
+    let mut about = BTreeSet::new(alloc);
+    for path in these {
+        let _ = about.insert(path.clone()?)?;
+    }
+    Ok(parted(alloc, paths, &about)?.1)
 }
 
 /// Compares the paths that a publication changes; and all of the folder's, if some of them are taken over or
@@ -178,11 +204,8 @@ pub(crate) fn taken_over<N: Net<Stream = TcpStream>>(
     let Compared { taken, others } = compare_all(
         net, alloc, node, release, &states, wanted, &compared, take_over,
     )?;
-    let (paths, left) = if take_over {
-        (taken, Vec::new(alloc))
-    } else {
-        parted(alloc, taken, wanted)?
-    };
+    let (paths, left) = taken_and_left(alloc, ledger, wanted, taken, take_over)?;
+    let asked = without(alloc, without(alloc, compared, &paths)?, &left)?;
     Ok(Taken {
         release,
         paths,
@@ -193,7 +216,8 @@ pub(crate) fn taken_over<N: Net<Stream = TcpStream>>(
         left_over: left_by(ledger),
         asked: Asked {
             release,
-            paths: added(alloc, &changes)?,
+            paths: asked,
+            taken: Vec::new(alloc),
             states,
         },
     })

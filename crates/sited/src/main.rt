@@ -8,8 +8,19 @@ use engine_options::{
 use http_read::Counted;
 use server::sited;
 use server_inspect::inspect;
-use std::io::Write;
+use std::fs::File;
+use std::io::{self, Write};
 use std::process::ExitCode;
+
+/// Takes the places of standard input, output and error that are closed: the record would be opened there, and
+/// what is printed would be written into it. Writing to one of these places fails.
+fn stand_ins(rt: &HostRuntime) -> [io::Result<File>; 3] {
+    [
+        File::open(rt, "/"),
+        File::open(rt, "/"),
+        File::open(rt, "/"),
+    ]
+}
 
 /// The node's rounds, with a line when it is ready, when they are done, and for a fault; and the exit status.
 fn run<E: Write>(rt: &HostRuntime, err: &mut Counted<E>) -> Result<u8, Misuse> {
@@ -28,10 +39,12 @@ fn run<E: Write>(rt: &HostRuntime, err: &mut Counted<E>) -> Result<u8, Misuse> {
 }
 
 fn main(rt: HostRuntime) -> ExitCode {
+    let held = stand_ins(&rt);
     let mut err = Counted::new(rt.stderr());
     let status = match run(&rt, &mut err) {
         Ok(status) => status,
         Err(why) => refuse(rt.alloc(), &mut err, &why),
     };
+    drop(held);
     ExitCode::from(status)
 }

@@ -8,9 +8,24 @@
 
 mod words;
 
+use std::fs::File;
+use std::io;
 use std::process::ExitCode;
 use words::sitepub;
 
+/// Takes the places of standard input, output and error that are closed: another file would be opened there,
+/// and what is printed would be written into it. Writing to one of these places fails.
+fn stand_ins(rt: &HostRuntime) -> [io::Result<File>; 3] {
+    [
+        File::open(rt, "/"),
+        File::open(rt, "/"),
+        File::open(rt, "/"),
+    ]
+}
+
 fn main(rt: HostRuntime) -> ExitCode {
-    ExitCode::from(sitepub(&rt, &mut rt.stdout(), &mut rt.stderr()))
+    let held = stand_ins(&rt);
+    let status = sitepub(&rt, &mut rt.stdout(), &mut rt.stderr());
+    drop(held);
+    ExitCode::from(status)
 }
