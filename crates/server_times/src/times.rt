@@ -82,6 +82,9 @@ pub struct Times {
     /// Milliseconds for which a request for a receipt that is not there yet is left, behind the last bytes that its client sent: most values are known by
     /// then, and a client asks once.
     pub receipts: u64,
+    /// Milliseconds for which the responses before such a request are held back, after the last bytes that its client sent: most receipts are there by
+    /// then, and all of them go out together (`Hold`).
+    pub holds: u64,
     /// Milliseconds that a request is given, from its first byte to the last of its response, where that is limited. An option of the command line.
     pub serve_ms: Option<u64>,
 }
@@ -118,6 +121,7 @@ const STANDARD: Times = Times {
     lingering: 2000,
     keeps_seat: 2000,
     receipts: 100,
+    holds: 5,
     serve_ms: None,
 };
 

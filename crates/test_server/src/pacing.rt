@@ -37,6 +37,7 @@ pub(crate) const TIMES: Times = Times {
     lingering: 2000,
     keeps_seat: 2000,
     receipts: 100,
+    holds: 5,
     serve_ms: None,
 };
 
