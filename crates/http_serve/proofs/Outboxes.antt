@@ -1,7 +1,7 @@
 -- What waits to be written: some bytes, and perhaps a long response after them.
 use Rattle.std.proofs.Common.{◌≡◌, ◌∙◌, ◌+◌, ◌≤◌, ◌<◌, ◌-◌, ℕ, zero, suc, List, [], ◌∷◌, ◌++◌, length, take, drop, Option, Some, None, arith, refl, sym, ap, append_assoc, append-nil, length-append}
-use Rattle.std.proofs.lemmas.List.{drop-append-le, take-append-drop}
-use Rattle.std.proofs.Math.Seq.{drop-append-add}
+use Rattle.std.proofs.lemmas.List.{drop-append-le, length-drop, take-append-drop}
+use Rattle.std.proofs.Math.Seq.{drop-append-add, take-length}
 use Rattle.std.specs.Prelude.{Vec}
 use Rattle.std.specs.declared.alloc.Global.{Global}
 use Rattle.http_serve.specs.Outboxes.{behind, IsBehind}
@@ -35,6 +35,17 @@ pub passes_over : (waits long : List ℕ) (n : ℕ) → length waits ≤ n → d
 passes_over waits long n all =
     let at : n ≡ length waits + (n - length waits) = omega (arith, all) in
     ap (λ k. drop k (waits ++ long)) at ∙ drop-append-add waits long (n - length waits)
+
+-- what is left of these bytes
+rest_of : (bytes : List ℕ) (sent : ℕ) → take (length bytes - sent) (drop sent bytes) ≡ drop sent bytes
+rest_of bytes sent = ap (λ n. take n (drop sent bytes)) (sym (length-drop sent bytes)) ∙ take-length (drop sent bytes)
+
+-- a response after all that waits
+pub joined_is : (joined lent bytes lent_text text all : List ℕ) (sent : ℕ) → joined ≡ take (length lent - sent) (drop sent lent) ++ lent_text
+    → lent ≡ bytes → lent_text ≡ text → drop sent bytes ≡ all → joined ≡ all ++ text
+joined_is joined lent bytes lent_text text all sent is same same_text waits =
+    let front : take (length lent - sent) (drop sent lent) ≡ all = rest_of lent sent ∙ ap (λ b. drop sent b) same ∙ waits in
+    is ∙ ap (λ w. w ++ lent_text) front ∙ ap (λ t. all ++ t) same_text
 
 -- the first of the bytes at hand were written, and the others wait
 pub written_first : (all front rest : List ℕ) (n : ℕ) → all ≡ front ++ rest → n ≤ length front → all ≡ take n front ++ drop n all

@@ -115,7 +115,8 @@ impl Outbox {
             }
             Some(spare) => {
                 if message.len() < WAITING {
-                    self.bytes = spare.joined(self.waiting(), message.as_slice());
+                    let waits = &self.bytes.as_slice()[self.sent..];
+                    self.bytes = spare.joined(waits, message.as_slice());
                     self.sent = 0;
                 } else {
                     self.long = Some(message);

@@ -1,6 +1,6 @@
 -- Turns one after another.
 use Rattle.std.proofs.Common.{◌≡◌, ◌≢◌, ◌+◌, ◌≤◌, ◌<◌, ◌||◌, ℕ, zero, suc, Bool, true, false, List, length, ap, get_or, set, inl, inr, arith, below_more, refl, sym, subst, ◌∙◌}
-use Rattle.std.specs.Prelude.{◌⊎◌, Option, Some, None, is_some, not}
+use Rattle.std.specs.Prelude.{◌⊎◌, Option, Some, None, is_some, not, Result, Ok, Err, IfOk}
 use Rattle.std.proofs.lemmas.Bool.{false≢true}
 use Rattle.std.proofs.lemmas.List.{get_or-set_other, get_or-set_same}
 use Rattle.http_serve.specs.ConnectionSteps.{IsAnswered, MayAnswer, Waits}
@@ -81,6 +81,13 @@ module _ {S T : Type 0} (service : Offered S) (times : Times) (time : ℕ) where
         | inr h ↦ inl h
       ] in
       (i.0, inr (stays, none, refl))
+
+  pub next_of : {E : Type 0} (r : Result Bool E) (now after : S) (x : Seat T) (connection : Connection) → ¬ (IsLeft service times time now x)
+      → IfOk r (λ did. did ≡ true → MayAnswer x.connection × IsAnswered service now after x.connection connection)
+      → IfOk r (λ did. did ≡ false → (after ≡ now) × (((¬ (MayAnswer x.connection)) × (connection ≡ x.connection)) ⊎ (MayAnswer x.connection × Waits x.connection connection)))
+      → IfOk r (λ did. MayBeOneMore service times time did now after x (record x { connection = connection }))
+  next_of (Ok did) now after x connection stays answered idle = next_is did now after x connection stays answered idle
+  next_of (Err e) now after x connection stays answered idle = tt
 
   -- one request more
   pub one_more : (k : ℕ) (now mid after : S) (old between new : Seat T) → AreMore service times time k now mid old between
