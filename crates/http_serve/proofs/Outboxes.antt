@@ -1,5 +1,5 @@
 -- What waits to be written: some bytes, and perhaps a long response after them.
-use Rattle.std.proofs.Common.{◌≡◌, ◌∙◌, ◌+◌, ◌≤◌, ◌<◌, ◌-◌, ℕ, zero, suc, List, [], ◌∷◌, ◌++◌, length, take, drop, Option, Some, None, arith, refl, sym, ap, append_assoc, append-nil, length-append}
+use Rattle.std.proofs.Common.{◌≡◌, ◌∙◌, ◌+◌, ◌≤◌, ◌<◌, ◌-◌, ℕ, List, ◌++◌, length, take, drop, Option, Some, None, arith, refl, sym, ap, append_assoc, append-nil, length-append}
 use Rattle.std.proofs.lemmas.List.{drop-append-le, length-drop, take-append-drop}
 use Rattle.std.proofs.Math.Seq.{drop-append-add, take-length}
 use Rattle.std.specs.Prelude.{Vec}

@@ -1,4 +1,4 @@
-use Rattle.std.proofs.Common.{◌≡◌, ◌∙◌, ◌++◌, take, drop, arith, ap, sym}
+use Rattle.std.proofs.Common.{◌∙◌, ◌++◌, take, arith, ap, sym}
 use Rattle.std.proofs.lemmas.Grind.{common_steps}
 use Rattle.http_serve.proofs.Outboxes.{written_first}
 use Rattle.http_serve.proofs.connection.Connection.write_to.Goals as goal

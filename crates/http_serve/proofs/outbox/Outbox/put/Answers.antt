@@ -12,4 +12,4 @@ returns-then-len-lt-WAITING c =
     let all : waits ≡ c.args.self.now = sym (alone waits c.self.inside.long none) ∙ c.self.view_is in
     alone c.joined.result.items c.self.inside.long none
     ∙ joined_is c.joined.result.items c.as_slice.result.now c.self.inside.bytes.items c.as_slice-then-len-lt-WAITING.result.now c.args.message.items c.args.self.now
-        c.self.inside.sent c.joined.ensures c.as_slice.ensures.value c.as_slice-then-len-lt-WAITING.ensures.value all
+    c.self.inside.sent c.joined.ensures c.as_slice.ensures.value c.as_slice-then-len-lt-WAITING.ensures.value all
