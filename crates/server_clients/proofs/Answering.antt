@@ -1,7 +1,7 @@
 -- Turns one after another.
 use Rattle.std.proofs.Common.{◌≡◌, ◌≢◌, ◌+◌, ◌≤◌, ◌<◌, ◌||◌, ℕ, zero, suc, Bool, true, false, List, length, ap, get_or, set, inl, inr, arith, below_more, refl, sym, subst, ◌∙◌}
-use Rattle.std.specs.Prelude.{◌⊎◌, Option, Some, None, is_some, not, Result, Ok, Err, IfOk}
-use Rattle.std.proofs.lemmas.Bool.{false≢true}
+use Rattle.std.specs.Prelude.{◌⊎◌, Option, Some, None, is_some, nat_lt, not, Result, Ok, Err, IfOk}
+use Rattle.std.proofs.lemmas.Bool.{false≢true, lt-ltb}
 use Rattle.std.proofs.lemmas.List.{get_or-set_other, get_or-set_same}
 use Rattle.http_serve.specs.ConnectionSteps.{IsAnswered, MayAnswer, Waits}
 use Rattle.http_serve.specs.Services.{MaySubmitMany, Offered}
@@ -101,6 +101,13 @@ module _ {S T : Type 0} (service : Offered S) (times : Times) (time : ℕ) where
   end_counts now old new (inl left) = ap (λ s. s.connection.answered) left.1
   end_counts now old new (inr (stays, inl waits, same)) = waits.1.answered
   end_counts now old new (inr (stays, inr none, same)) = ap (λ c. c.answered) none.1
+
+-- the client has so many responses more
+pub counts_of : {T : Type 0} (k : ℕ) (old new : Seat T) → new.connection.answered ≡ old.connection.answered + k → CountsAnswered (nat_lt 0 k) old new
+counts_of zero old new more = omega (arith, more)
+counts_of (suc k) old new more =
+    let some : old.connection.answered < new.connection.answered = omega (arith, more) in
+    subst (λ told. CountsAnswered told old new) (sym (lt-ltb 0 (suc k) (omega arith))) some
 
 -- so many submissions, and then so many more
 pub many_then : {S : Type 0} (service : Offered S) (n k : ℕ) (now mid after : S) → MaySubmitMany service n now mid → MaySubmitMany service k mid after

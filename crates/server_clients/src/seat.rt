@@ -134,7 +134,7 @@ impl<S> Seat<S> {
         ensures counts { IfOk result (λ did. CountsAnswered did self.old self.new) }
         ensures taken { (n : ℕ) × (n ≤ 100) × MaySubmitMany offered n served.old served.new }
     {
-        let mut count = 0;
+        let mut count: u32 = 0;
         while self.answer_next(alloc, served, spans, times, now)? {
             count += 1;
         }

@@ -9,5 +9,5 @@ pub returns-clause-next : goal.returns-clause-next
 returns-clause-next g c =
     let stays : ¬ (IsLeft offered c.args.times c.args.now c.args.served.now c.args.self.now) =
     λ left. false≢true (sym c.if-is_left.false ∙ c.is_left.ensures.1 left) in
-    next_of offered c.args.times c.args.now c.advance.result c.args.served.now c.advance.new.served c.args.self.now c.advance.new.self.connection
+    next_of offered c.args.times c.args.now c.advance.result c.args.served.now c.advance.new.service c.args.self.now c.advance.new.self
     stays c.advance.ensures.answered c.advance.ensures.idle
