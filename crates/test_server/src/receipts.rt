@@ -26,8 +26,7 @@ const UNKNOWN_TWICE: &[u8] =
 const QUEUED_AND_KNOWN: &[u8] =
     b"HTTP/1.1 202 Accepted\r\nContent-Type: text/plain; charset=utf-8\r\nContent-Length: 7\r\n\r\nqueued\nHTTP/1.1 200 OK\r\nContent-Type: text/plain; charset=utf-8\r\nContent-Length: 2\r\n\r\n1\n";
 
-const POSTS: &[u8] =
-    b"POST /_submit/1/1 HTTP/1.1\r\nHost: a\r\nContent-Length: 8\r\n\r\nrelease\n";
+const POSTS: &[u8] = b"POST /_submit/1/1 HTTP/1.1\r\nHost: a\r\nContent-Length: 8\r\n\r\nrelease\n";
 
 /// A byte of the question is missing.
 const POSTS_AND_BEGINS_TO_ASK: &[u8] =
@@ -72,7 +71,13 @@ const ALONE: &[(&[u8], u64, &[u8])] = &[
 ];
 
 /// What a client of a server has after so many milliseconds. The client's calls move so many bytes at most.
-fn check_got(rt: &impl Abort, mut group: Group, row: (&[u8], u64, &[u8]), piece: usize, away: &[u8]) {
+fn check_got(
+    rt: &impl Abort,
+    mut group: Group,
+    row: (&[u8], u64, &[u8]),
+    piece: usize,
+    away: &[u8],
+) {
     let (sends, millis, wanted) = row;
     group.comes(rt, 1, sends, piece);
     group.goes_on(rt, millis, away);
@@ -107,7 +112,13 @@ fn what_goes_before_a_receipt_is_held_back(rt: HostRuntime) {
 fn a_post_and_its_question_in_pieces(rt: HostRuntime) {
     for piece in 1..POSTS_AND_ASKS.len() {
         let group = Group::new(&rt, rt.alloc(), 1);
-        check_got(&rt, group, (POSTS_AND_ASKS, 400, QUEUED_AND_KNOWN), piece, &[]);
+        check_got(
+            &rt,
+            group,
+            (POSTS_AND_ASKS, 400, QUEUED_AND_KNOWN),
+            piece,
+            &[],
+        );
     }
 }
 
