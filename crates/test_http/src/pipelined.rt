@@ -1,9 +1,10 @@
 //! Requests that a client sends at once: their responses wait one after another, in order, up to 16 KB.
 use crate::comparing::{ensure, same};
-use crate::desk::{Desk, desk_of, open_desk};
+use crate::desk::{Desk, desk_of, open_desk, took};
 use crate::served_several::GET;
 use crate::steps::{AMPLE, Room, led, waits};
 use crate::texts::times;
+use std::alloc::Global;
 use std::process::Abort;
 use test_ends::{Pieces, in_pieces, whole};
 
@@ -14,45 +15,46 @@ const FIVE: &[u8] =
 const FIVE_ANSWERS: &[u8] =
     b"HTTP/1.1 202 Accepted\r\nContent-Type: text/plain; charset=utf-8\r\nContent-Length: 7\r\n\r\nqueued\nHTTP/1.1 404 Not Found\r\nContent-Type: text/plain; charset=utf-8\r\nContent-Length: 8\r\n\r\nunknown\nHTTP/1.1 200 OK\r\nContent-Type: text/html; charset=utf-8\r\nContent-Length: 3\r\n\r\nHi\nHTTP/1.1 200 OK\r\nContent-Type: text/html; charset=utf-8\r\nContent-Length: 3\r\n\r\nHTTP/1.1 200 OK\r\nContent-Type: text/html; charset=utf-8\r\nContent-Length: 3\r\nConnection: close\r\n\r\nHi\n";
 
-/// What is read so, and written by pieces of that size, comes to that.
+/// What is read so at a desk of its own, and written by pieces of that size, comes to that. One submission is made.
 fn check(
     rt: &impl Abort,
-    desk: &mut Desk<'_>,
+    alloc: Global,
     reader: Pieces<'_>,
     room: Room,
     written: &[u8],
     of: usize,
 ) {
-    let run = led(desk, reader, room);
+    let mut desk = open_desk(alloc, 1);
+    let run = led(&mut desk, reader, room);
     same(rt, (of, run.written.as_slice()), (of, written));
     ensure(rt, run.is_over && run.result.is_ok(), of);
+    took(rt, &desk, 1);
     drop(run);
+    drop(desk);
 }
 
 /// Cut into two behind each byte, and in pieces of each size.
-fn check_cuts(rt: &impl Abort, desk: &mut Desk<'_>, sent: &[u8], written: &[u8]) {
+fn check_cuts(rt: &impl Abort, alloc: Global, sent: &[u8], written: &[u8]) {
     for cut in 0..=sent.len() {
         let halves = in_pieces(sent, cut, usize::MAX, usize::MAX);
-        check(rt, desk, halves, AMPLE, written, cut);
+        check(rt, alloc, halves, AMPLE, written, cut);
         let pieces = in_pieces(sent, cut, cut, usize::MAX);
-        check(rt, desk, pieces, AMPLE, written, cut);
+        check(rt, alloc, pieces, AMPLE, written, cut);
     }
 }
 
 /// Written by pieces of each size.
-fn check_writers(rt: &impl Abort, desk: &mut Desk<'_>, sent: &[u8], written: &[u8]) {
+fn check_writers(rt: &impl Abort, alloc: Global, sent: &[u8], written: &[u8]) {
     for piece in 1..=written.len() {
         let room = (usize::MAX, piece);
-        check(rt, desk, whole(sent), room, written, piece);
+        check(rt, alloc, whole(sent), room, written, piece);
     }
 }
 
 #[test]
 fn five_requests_at_once(rt: HostRuntime) {
-    let mut desk = open_desk(rt.alloc(), 1);
-    check_cuts(&rt, &mut desk, FIVE, FIVE_ANSWERS);
-    check_writers(&rt, &mut desk, FIVE, FIVE_ANSWERS);
-    drop(desk);
+    check_cuts(&rt, rt.alloc(), FIVE, FIVE_ANSWERS);
+    check_writers(&rt, rt.alloc(), FIVE, FIVE_ANSWERS);
 }
 
 /// How long a page is (its response has 77 bytes more, and the digits of its length), how many questions for it come at once, how many of them are answered before anything

@@ -44,7 +44,8 @@ const QUEUED_AND_NONE: &[u8] =
 const QUEUED_AND_UNKNOWN: &[u8] =
     b"HTTP/1.1 202 Accepted\r\nContent-Type: text/plain; charset=utf-8\r\nContent-Length: 7\r\n\r\nqueued\nHTTP/1.1 404 Not Found\r\nContent-Type: text/plain; charset=utf-8\r\nContent-Length: 8\r\n\r\nunknown\n";
 
-/// What a client sends at once, how long a server of its own goes on, and what the client has by then: its bytes come in the first millisecond.
+/// What a client sends at once, how long a server of its own goes on, and what the client has by then: its bytes come in the first millisecond. In the
+/// second the server begins its attempt; four messages to itself later, one in each millisecond, its receipt is there.
 const ROWS: &[(&[u8], u64, &[u8])] = &[
     (ASKS, 100, b""),
     (ASKS, 101, UNKNOWN),
@@ -53,7 +54,8 @@ const ROWS: &[(&[u8], u64, &[u8])] = &[
     (ASKS_TWICE, 102, UNKNOWN_TWICE),
     (POSTS, 1, QUEUED),
     (POSTS_AND_ASKS, 1, b""),
-    (POSTS_AND_ASKS, 5, QUEUED_AND_KNOWN),
+    (POSTS_AND_ASKS, 5, b""),
+    (POSTS_AND_ASKS, 6, QUEUED_AND_KNOWN),
     (POSTS_AND_ASKS, 100, QUEUED_AND_KNOWN),
 ];
 
