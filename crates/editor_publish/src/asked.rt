@@ -1,8 +1,9 @@
 //! Paths that a publication asks a group for: which of them are another's.
 //!
-//! They are asked for before anything is sent. Another editor may put something at one of the paths at the same
-//! moment: so they are asked for again once the folder's commands are in the log, before they are released. The
-//! other editor's release may show a part of these commands, as they came into the log one after another.
+//! They are asked for before anything is sent. Another editor may put something at one of the paths at the
+//! same moment: so they are asked for again once the folder's commands are in the log, before they are
+//! released. The other editor's release may show a part of these commands, as they came into the log one
+//! after another.
 ghost use Rattle.std.specs.Prelude.{◌≡◌, map, slice_get, IfOk, string_bytes};
 ghost use Rattle.editor_publish.specs.Taking.{shows_some, is_own, takes, taken_of, others_of};
 
@@ -15,6 +16,7 @@ use editor_group::{Address, ask};
 use editor_http::{NodeAnswer, Question};
 use editor_plan::is_taken;
 use std::alloc::{AllocError, Global};
+use std::collections::BTreeSet;
 use std::net::{Net, TcpStream};
 
 /// The paths that a publication changes, adds or removes, and the newest release that was asked for them.
@@ -36,15 +38,13 @@ pub(crate) struct Compared {
     pub others: Vec<String>,
 }
 
-/// What is shown at paths by the folder's own texts: of each of its states, and as it is wanted.
+/// What is shown at paths by the folder's own texts, of each of its states.
 fn own_views(
     alloc: Global,
     states: &[Vec<String>],
-    wanted: &[&str],
     paths: &[String],
 ) -> Result<Vec<Vec<View>>, AllocError> {
     let mut views = Vec::new(alloc);
-    views.push(views_of(alloc, wanted, paths)?)?;
     for texts in states {
         views.push(views_of(alloc, &lent(alloc, texts)?, paths)?)?;
     }
@@ -154,14 +154,30 @@ fn others_of(
     Ok(others)
 }
 
-/// Compares paths with a node's release.
+/// Compares paths with a node's release, if the folder's own texts show these views.
+fn compare_views<N: Net<Stream = TcpStream>>(
+    net: &N,
+    alloc: Global,
+    node: &Address,
+    release: u64,
+    views: &[Vec<View>],
+    paths: &[String],
+) -> Result<Compared, EditorFault> {
+    let answers = answers_at(net, alloc, node, release, paths)?;
+    let url = node.url.as_str();
+    Ok(Compared {
+        taken: taken_of(alloc, url, paths, &answers, views)?,
+        others: others_of(alloc, url, paths, &answers, views)?,
+    })
+}
+
+/// Compares paths with a node's release, if the folder may have these texts.
 pub(crate) fn compare<N: Net<Stream = TcpStream>>(
     net: &N,
     alloc: Global,
     node: &Address,
     release: u64,
     states: &[Vec<String>],
-    wanted: &[&str],
     paths: &[String],
 ) -> Result<Compared, EditorFault> {
     if release == 0 || paths.is_empty() {
@@ -170,17 +186,12 @@ pub(crate) fn compare<N: Net<Stream = TcpStream>>(
             others: Vec::new(alloc),
         });
     }
-    let answers = answers_at(net, alloc, node, release, paths)?;
-    let views = own_views(alloc, states, wanted, paths)?;
-    let url = node.url.as_str();
-    Ok(Compared {
-        taken: taken_of(alloc, url, paths, &answers, &views)?,
-        others: others_of(alloc, url, paths, &answers, &views)?,
-    })
+    let views = own_views(alloc, states, paths)?;
+    compare_views(net, alloc, node, release, &views, paths)
 }
 
 impl Asked {
-    /// Whether a path is shown so once the first texts of a plan are in the log, and the others are not.
+    /// Whether a path is shown so once the first texts of a plan are in the log, some or all of them.
     fn is_between(
         &self,
         alloc: Global,
@@ -207,18 +218,18 @@ impl Asked {
         Ok(false)
     }
 
-    /// Those of the paths that are another's in a later release of a node, if the folder has these texts, and
-    /// this plan made them.
-    pub(crate) fn taken_in<N: Net<Stream = TcpStream>>(
+    /// Those of the paths that are another's in a later release of a node, after this plan, if the folder's
+    /// own texts show these views.
+    fn taken_in<N: Net<Stream = TcpStream>>(
         &self,
         net: &N,
         alloc: Global,
         node: &Address,
         release: u64,
-        texts: &[&str],
+        views: &[Vec<View>],
         plan: &[&str],
     ) -> Result<Vec<String>, EditorFault> {
-        let found = compare(net, alloc, node, release, &self.states, texts, &self.paths)?;
+        let found = compare_views(net, alloc, node, release, views, &self.paths)?;
         let answers = answers_at(net, alloc, node, release, &found.taken)?;
         let mut taken = Vec::new(alloc);
         for (path, answer) in found.taken.into_iter().zip(&answers) {
@@ -227,5 +238,29 @@ impl Asked {
             }
         }
         Ok(taken)
+    }
+
+    /// Those of the paths that were another's in one of the releases since those that were asked for them, up
+    /// to this one, after this plan: a release of a third editor may show the folder's commands in their
+    /// place again.
+    pub(crate) fn taken_by<N: Net<Stream = TcpStream>>(
+        &self,
+        net: &N,
+        alloc: Global,
+        node: &Address,
+        newest: u64,
+        plan: &[&str],
+    ) -> Result<Vec<String>, EditorFault> {
+        let mut paths = BTreeSet::new(alloc);
+        if newest <= self.release || self.paths.is_empty() {
+            return Ok(Vec::new(alloc));
+        }
+        let views = own_views(alloc, &self.states, &self.paths)?;
+        for release in self.release.saturating_add(1)..newest.saturating_add(1) {
+            for path in self.taken_in(net, alloc, node, release, &views, plan)? {
+                let _ = paths.insert(path)?;
+            }
+        }
+        Ok(paths.into_iter().collect(alloc)?)
     }
 }

@@ -88,8 +88,8 @@ pub(crate) fn changes_of(
     differing(alloc, &olds, news)
 }
 
-/// Whether a release is compared with the view of a path: the publication has a text about it, or leaves it to
-/// another editor.
+/// Whether a release is compared with the view of a path: the publication has a text about it, or leaves it
+/// to another editor.
 fn is_compared(status: u16, touched: bool, left: bool) -> bool
     ensures { result ≡ is_compared status touched left }
 {
@@ -220,7 +220,7 @@ fn tell_why<E: Write>(alloc: Global, err: &mut E, otherwise: usize) -> Result<()
     say_made(
         err,
         format!(in alloc;
-            "pages that this folder renders otherwise: {otherwise}. Another editor has taken their paths over, or has put or removed a name that they use, or another copy of this folder was published at the same time. To put these pages again publish with --take-over"
+            "pages that this folder renders otherwise, or removes: {otherwise}. Another editor has put them, or has put or removed a name that they use, or another copy of this folder was published at the same time. To have them as this folder has them publish with --take-over"
         ),
     )
 }

@@ -170,24 +170,16 @@ impl<R: Files + Net<Stream = TcpStream> + Clock + AllocGlobal, E: Write> Publish
         self.send_planned(false)
     }
 
-    /// Asks again for the paths that this publication changes, once its commands, this plan, are in the log: if
-    /// another editor has put something at one since, it is taken over, or the publication is refused and
-    /// releases nothing. The node gave the receipts of these commands, so it has each release that came before
-    /// them.
-    fn ask_again(
-        &mut self,
-        asked: &mut Asked,
-        texts: &[&str],
-        plan: &[String],
-    ) -> Result<(), EditorFault> {
+    /// Asks again for the paths that this publication changes, once its commands, this plan, are in the log:
+    /// if another editor has put something at one since, it is taken over, or the publication is refused and
+    /// releases nothing. The node gave the receipts of these commands, so it has each release that came
+    /// before them.
+    fn ask_again(&mut self, asked: &mut Asked, plan: &[String]) -> Result<(), EditorFault> {
         let alloc = self.rt.alloc();
         let newest = self.newest()?;
-        if newest <= asked.release {
-            return Ok(());
-        }
         let (node, plan) = (self.group.node()?, lent(alloc, plan)?);
-        let mut paths = asked.taken_in(self.rt, alloc, node, newest, texts, &plan)?;
-        asked.release = newest;
+        let mut paths = asked.taken_by(self.rt, alloc, node, newest, &plan)?;
+        asked.release = newest.max(asked.release);
         tell_paths(alloc, self.err, "takes over", &paths)?;
         let found = !paths.is_empty();
         asked.taken.append(&mut paths)?;
@@ -210,17 +202,13 @@ impl<R: Files + Net<Stream = TcpStream> + Clock + AllocGlobal, E: Write> Publish
         Ok(texts)
     }
 
-    /// Sends what was planned: the release, if it was one. After commands the group is asked again for the paths
-    /// that they change.
-    fn send_next(
-        &mut self,
-        asked: &mut Asked,
-        texts: &[&str],
-    ) -> Result<Option<Made>, EditorFault> {
+    /// Sends what was planned: the release, if it was one. After commands the group is asked again for the
+    /// paths that they change.
+    fn send_next(&mut self, asked: &mut Asked) -> Result<Option<Made>, EditorFault> {
         let plan = self.plan()?;
         let made = self.send_planned(true)?;
         if made.is_none() {
-            self.ask_again(asked, texts, &plan)?;
+            self.ask_again(asked, &plan)?;
         }
         Ok(made)
     }
@@ -241,7 +229,7 @@ impl<R: Files + Net<Stream = TcpStream> + Clock + AllocGlobal, E: Write> Publish
         for _ in 0..u64::MAX {
             match advance(self.rt.alloc(), self.ledger, &texts)? {
                 Stage::Done => break,
-                Stage::Sends => made = self.send_next(asked, &texts)?.or(made),
+                Stage::Sends => made = self.send_next(asked)?.or(made),
             }
         }
         Ok(made)
@@ -382,8 +370,8 @@ impl<R: Files + Net<Stream = TcpStream> + Clock + AllocGlobal, E: Write> Publish
         self.publish_texts(out, wanted, taken, found)
     }
 
-    /// Tells what a publication of these texts would take over: that is the answer, if the node that is spoken
-    /// to says it. Why a publication would be refused is kept.
+    /// Tells what a publication of these texts would take over: that is the answer, if the node that is
+    /// spoken to says it. Why a publication would be refused is kept.
     fn tell_taken<W: Write>(
         &mut self,
         out: &mut W,

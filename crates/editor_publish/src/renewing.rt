@@ -197,8 +197,8 @@ fn about<'a>(
     Ok(found)
 }
 
-/// Texts by which a page comes about while a plan comes into the log: those from before, and those of the plan,
-/// in order.
+/// Texts by which a page comes about while a plan comes into the log: those from before, and those of the
+/// plan, in order.
 #[derive(Drop)]
 pub(crate) struct Course<'a> {
     pub before: Vec<&'a str>,

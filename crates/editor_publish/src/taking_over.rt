@@ -2,7 +2,7 @@
 //!
 //! Each path is compared whose page the publication changes, or that it puts or removes. It is another's if
 //! the group's newest release has something there that none of the folder's own texts show: not as they were
-//! at its last release, nor since, nor as they are wanted (`states_of` in `editor_plan`). The folder takes it
+//! at its last release, nor since (`states_of` in `editor_plan`). The folder takes it
 //! over if it puts something there, or if that is asked for; if the folder only has nothing there any more,
 //! the path is left to the other. Who takes over a path takes over all of the folder's paths: each is
 //! compared then, and all texts are put again by which a page comes about that is not the folder's
@@ -158,13 +158,13 @@ fn compare_all<N: Net<Stream = TcpStream>>(
 ) -> Result<Compared, EditorFault> {
     let all = with_all(alloc, paths, wanted)?;
     if take_over {
-        return compare(net, alloc, node, release, states, wanted, &all);
+        return compare(net, alloc, node, release, states, &all);
     }
-    let first = compare(net, alloc, node, release, states, wanted, paths)?;
+    let first = compare(net, alloc, node, release, states, paths)?;
     if all.len() == paths.len() || !is_about_some(alloc, &first.taken, wanted)? {
         return Ok(first);
     }
-    compare(net, alloc, node, release, states, wanted, &all)
+    compare(net, alloc, node, release, states, &all)
 }
 
 /// Whether a wanted text is about one of the paths.
