@@ -2,7 +2,7 @@
 //!
 //! The acceptor's judges say what an entry must advance, on reading too.
 
-ghost use Rattle.std.specs.Prelude.{◌≡◌, ℕ, []};
+ghost use Rattle.std.specs.Prelude.{◌≡◌, ℕ, [], IfOk};
 ghost use Rattle.durable.specs.Entries.{Round, Promised, PromisedSpan, Voted, Learned, Floor};
 ghost use Rattle.durable.specs.Raising.{IsSpanned};
 ghost use Rattle.site_ids.specs.Spans.{IsSpan, IsInSpan};
@@ -12,7 +12,7 @@ use crate::parsing::EntryRef;
 use crate::slots::Slots;
 use acceptor::{PrepareVerdict, ProposeVerdict, judge_prepare, judge_propose};
 use site_ids::{Ballot, Instance, Value, Vote};
-use std::alloc::Global;
+use std::alloc::{AllocError, Global};
 
 /// What the entries up to a gate record.
 #[derive(Drop)]
@@ -178,6 +178,24 @@ impl Recorded {
         Ok(())
     }
 
+    /// These bytes as a value. If the last vote there is for them, the value shares the vote's bytes, so that
+    /// they are in memory once.
+    fn shared_value(
+        &self,
+        alloc: Global,
+        instance: Instance,
+        bytes: &[u8],
+    ) -> Result<Value, AllocError>
+        ensures { IfOk result (λ value. value ≡ bytes.now) }
+    {
+        if let Some(vote) = &self.slots.get(instance).vote {
+            if vote.value.as_bytes() == bytes {
+                return vote.value.try_clone();
+            }
+        }
+        Value::copied_from(alloc, bytes)
+    }
+
     fn take_learned(
         &mut self,
         alloc: Global,
@@ -189,7 +207,7 @@ impl Recorded {
         if self.slots.learned(instance).is_some() {
             return Err(RecordFault::Damaged);
         }
-        let value = Value::copied_from(alloc, value)?;
+        let value = self.shared_value(alloc, instance, value)?;
         self.slots.make_room(instance)?;
         self.keep_learned(instance, value);
         Ok(())

@@ -1,11 +1,11 @@
 -- What a node keeps of what it learned.
-use Rattle.std.specs.Prelude.{◌≡◌, ◌⊎◌, ℕ, Some, List, []}
+use Rattle.std.specs.Prelude.{◌≡◌, ℕ, Some, List, []}
 use Rattle.wire.specs.declared.message.Message.{Message}
 use Rattle.durable.specs.Entries.{learned_at}
 use Rattle.durable.specs.Histories.{IsHistory}
 use Rattle.node.specs.declared.to.To.{To}
 use Rattle.node.specs.Nodes.{Value, Node}
-use Rattle.node.specs.Calls.{keep, IsOwnVote, MayKeep}
+use Rattle.node.specs.Calls.{keep, MayKeep}
 use Rattle.node.specs.Endings.{Whole, Ends}
 use Rattle.node.specs.Ranges.{HasRanges}
 
@@ -14,11 +14,10 @@ abbrev pub KeepLeavesNone : Type 0
 KeepLeavesNone = (n p i : ℕ) (s new : Node) (out : List (To × Message)) → Ends n p s (keep i) Whole out new
     → (¬ MayKeep new i) × (out ≡ [])
 
--- if nothing is left to keep at an instance, the known value there is on record: a value is learned there, or
--- the last vote is for it
+-- if nothing is left to keep at an instance where a value is known, a value is on record there as learned
 abbrev pub KnownIsOnRecord : Type 0
 KnownIsOnRecord = (s : Node) (i : ℕ) (v : Value) → s.known i ≡ Some v → ¬ MayKeep s i
-    → ((u : Value) × (learned_at i s.entries ≡ Some u)) ⊎ IsOwnVote s i v
+    → (u : Value) × (learned_at i s.entries ≡ Some u)
 
 -- the entry that goes on record may follow what is there
 abbrev pub KeepStaysHistory : Type 0

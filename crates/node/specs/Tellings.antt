@@ -28,9 +28,13 @@ message_of p i None None = None
 abbrev pub telling : ℕ → Node → ℕ → Option Message
 telling p s i = message_of p i (remembered s i) (last_vote i s.entries)
 
+-- the node knows a value there, or has one on record as learned
+abbrev pub IsRemembered : Node → ℕ → Type 0
+IsRemembered s i = remembered s i ≢ None
+
 -- the node has something to report of the instance
 abbrev pub IsTellable : Node → ℕ → Type 0
-IsTellable s i = (remembered s i ≢ None) ⊎ (last_vote i s.entries ≢ None)
+IsTellable s i = IsRemembered s i ⊎ (last_vote i s.entries ≢ None)
 
 abbrev pub with_first : Option Message → List Message → List Message
 with_first None ms = ms

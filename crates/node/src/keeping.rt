@@ -1,44 +1,26 @@
 //! A value that is known goes on record as learned.
 
-ghost use Rattle.std.specs.Prelude.{◌≡◌, ◌↔◌, ◌≤◌, [], None, IsTrue, IfOk, IfSome, OnErr, MatchOption};
+ghost use Rattle.std.specs.Prelude.{◌≡◌, ◌≤◌, [], None, IfOk, IfSome, OnErr, MatchOption};
 ghost use Rattle.std.specs.Prelude.{length};
 ghost use Rattle.site_ids.specs.declared.TheConstants.{MAX_VALUE as longest};
 ghost use Rattle.durable.specs.Slots.{value_at};
-ghost use Rattle.node.specs.Calls.{IsVoteFor};
 
 use crate::{Node, NodeFault};
-use acceptor::Slot;
 use site_disk::Disk;
 use site_ids::{Instance, MAX_VALUE, Value};
 use std::alloc::AllocError;
-
-/// Whether the two are one value.
-pub(crate) fn is_same(one: &Value, other: &Value) -> bool
-    ensures { IsTrue result ↔ (one.now ≡ other.now) }
-{
-    one.as_bytes() == other.as_bytes()
-}
-
-/// Whether the last vote there is for the value.
-fn is_vote_for(slot: &Slot, value: &Value) -> bool
-    ensures { IsTrue result ↔ IsVoteFor slot.now.vote value.now }
-{
-    match &slot.vote {
-        Some(vote) => is_same(&vote.value, value),
-        None => false,
-    }
-}
 
 impl<D: Disk> Node<D> {
     ghost use Rattle.node.specs.Nodes.{Node as AbstractNode};
     ghost use Rattle.node.specs.Calls.{keep as keeping, IsUnkept, MayKeep};
     ghost use Rattle.node.specs.Standing.{IsNodeOf, IsEvent, KeepsOthers, CountsDevice, ending_of};
 
-    /// Puts the value known at an instance on record as learned, unless a value is learned there on record,
-    /// or the node's own last vote there is for it. It raises no ballot, and hands out nothing.
+    /// Puts the value known at an instance on record as learned, unless a value is on record there as
+    /// learned. It raises no ballot, and hands out nothing.
     ///
     /// So nodes that restart can report to one another what one of them had learned, and it need not be
-    /// decided again.
+    /// decided again. A vote for the value does not do: votes at an instance may be at different ballots, and
+    /// then no majority of them shows what was decided.
     pub fn keep(&mut self, instance: Instance) -> Result<(), NodeFault>
         ensures event { IsEvent D.stands_for self.old self.new (keeping instance) (ending_of result) [] [] }
         ensures counts { CountsDevice result (D.failed self.old.store.disk) (D.failed self.new.store.disk) }
@@ -66,9 +48,6 @@ impl<D: Disk> Node<D> {
             return Ok(None);
         };
         if self.store.learned(instance).is_some() {
-            return Ok(None);
-        }
-        if is_vote_for(self.store.slot(instance), value) {
             return Ok(None);
         }
         if value.as_bytes().len() > MAX_VALUE {

@@ -36,9 +36,8 @@ pub fn no_call_is_stuck()
     ensures { NeverStuck }
 {}
 
-/// After a call that keeps what is known at an instance, nothing is left to keep there. The value is on
-/// record: a value is learned there, or the last vote is for it. The entry that goes on record may follow
-/// what is there.
+/// After a call that keeps what is known at an instance, nothing is left to keep there: a value is on record
+/// there as learned. The entry that goes on record may follow what is there.
 pub fn known_values_are_kept()
     ensures none { KeepLeavesNone }
     ensures on_record { KnownIsOnRecord }

@@ -1,13 +1,19 @@
 //! A value that becomes known.
 
-ghost use Rattle.std.specs.Prelude.{◌≡◌, None, IfOk, OnErr, OnOk};
+ghost use Rattle.std.specs.Prelude.{◌≡◌, ◌↔◌, None, IsTrue, IfOk, OnErr, OnOk};
 
 use crate::Node;
-use crate::keeping::is_same;
 use acceptor::Slot;
 use site_disk::Disk;
 use site_ids::{Instance, Value};
 use std::alloc::AllocError;
+
+/// Whether the two are one value.
+fn is_same(one: &Value, other: &Value) -> bool
+    ensures { IsTrue result ↔ (one.now ≡ other.now) }
+{
+    one.as_bytes() == other.as_bytes()
+}
 
 /// The value. If the slot's vote is for it, these are the slot's bytes, so that they are kept once.
 fn kept_by<'a>(slot: &'a Slot, value: &'a Value) -> &'a Value

@@ -5,10 +5,9 @@ use Rattle.site_ids.specs.declared.TheConstants.{MAX_INSTANCE}
 use Rattle.site_ids.specs.Ids.{BallotOf, IsInstance}
 use Rattle.site_ids.specs.Lists.{In}
 use Rattle.site_ids.specs.Spans.{IsInSpan}
-use Rattle.site_ids.specs.declared.value.Vote.{Vote}
 use Rattle.wire.specs.declared.message.Message.{Message}
 use Rattle.wire.specs.declared.message.Message.TheVariants.{Prepare, Promise, Propose, Accepted, Nack, Ask, Chosen}
-use Rattle.durable.specs.Entries.{Round, Learned, last_round, last_vote, floor_of, learned_at}
+use Rattle.durable.specs.Entries.{Round, Learned, last_round, floor_of, learned_at}
 use Rattle.proposer.specs.declared.TheConstants.{MAX_ATTEMPTS}
 use Rattle.proposer.specs.Attempts.{Attempt, opened as opened_attempt, opened_span}
 use Rattle.learner.specs.ToldVotes.{ToldVote, told_vote}
@@ -22,7 +21,7 @@ use Rattle.node.specs.Nodes.{Value, IsFirstUnknown, IsMute}
 use Rattle.node.specs.Effects.{Effect}
 use Rattle.node.specs.Tickets.{IsHeld, has_same_ticket}
 use Rattle.node.specs.Deliveries.{UnlessMute, reached_by, OnAccepted, OnAsk, OnChosen, ByKind}
-use Rattle.node.specs.Calls.{Call, submit, tick, widen, ask, tell, deliver, keep, IsOwnVote, MayKeep, oldest, IsFree, IsNextFree, IsTried, AreUntried, IsNextSpan, Does}
+use Rattle.node.specs.Calls.{Call, submit, tick, widen, ask, tell, deliver, keep, MayKeep, oldest, IsFree, IsNextFree, IsTried, AreUntried, IsNextSpan, Does}
 use Rattle.node.proofs.Windows.{from_first, untried_stays}
 use Rattle.world.proofs.Lists.{put_at_cases}
 use Rattle.world.proofs.Told.{Told, both, numbers, no_more, ballots, values, among, are_many}
@@ -363,26 +362,13 @@ told n p t to i = record { entry = None; after = t; out = (tells p (node_by t) t
 
 -- ---- keeping
 
--- its last vote there is for the value, or not
-abbrev pub own_vote : (t : NodeBy) (i : ℕ) (v : Value) → Told (IsOwnVote (node_by t) i v)
-own_vote t i v = elim (last_vote i t.entries) as (λ o. last_vote i t.entries ≡ o → Told (IsOwnVote (node_by t) i v)) [
-  | None ↦ λ none. inr (λ x. no_such x.0 (sym none ∙ x.1))
-  | Some w ↦ λ is. elim (values w.value v) [
-    | inl same ↦ inl (w, is, same)
-    | inr apart ↦ inr (λ x. apart (ap (λ (y : Vote). y.value) (inside w x.0 (sym is ∙ x.1)) ∙ x.2))
-  ]
-] refl
-
 -- a value that is not kept at the instance, or there is none
 abbrev pub unkept : (t : NodeBy) (i : ℕ) → MayKeep (node_by t) i ⊎ (¬ MayKeep (node_by t) i)
 unkept t i = elim (learned_at i t.entries) as (λ o. learned_at i t.entries ≡ o → MayKeep (node_by t) i ⊎ (¬ MayKeep (node_by t) i)) [
   | Some u ↦ λ learned. inr (λ x. no_such u (sym x.1.unlearned ∙ learned))
   | None ↦ λ none. elim (map_of t.known i) as (λ o. map_of t.known i ≡ o → MayKeep (node_by t) i ⊎ (¬ MayKeep (node_by t) i)) [
     | None ↦ λ unknown. inr (λ x. no_such x.0 (sym unknown ∙ x.1.known))
-    | Some v ↦ λ known. elim (own_vote t i v) [
-      | inl own ↦ inr (λ x. x.1.unvoted (subst (λ u. IsOwnVote (node_by t) i u) (inside v x.0 (sym known ∙ x.1.known)) own))
-      | inr other ↦ inl (v, record { known = known; unlearned = none; unvoted = other })
-    ]
+    | Some v ↦ λ known. inl (v, record { known = known; unlearned = none })
   ] refl
 ] refl
 

@@ -1,31 +1,22 @@
-use Rattle.std.proofs.Common.{◌≡◌, ℕ, true, false, Some, None, length, sym, ap, subst, ◌∙◌, arith}
-use Rattle.acceptor.specs.declared.slot.Slot.{Slot}
+use Rattle.std.proofs.Common.{◌≡◌, ℕ, Some, None, length, sym, ap, subst, ◌∙◌, arith}
 use Rattle.chosen_log.specs.Log.{value_at as logged}
-use Rattle.durable.specs.Entries.{last_vote}
-use Rattle.durable.specs.Slots.{slot_at, value_at}
+use Rattle.durable.specs.Slots.{value_at}
 use Rattle.node.specs.declared.node.Node.{Node as Running}
 use Rattle.node.specs.Nodes.{Value, Node}
-use Rattle.node.specs.Calls.{IsVoteFor, IsUnkept}
+use Rattle.node.specs.Calls.{IsUnkept}
 use Rattle.node.specs.Standing.{IsNodeOf}
 use Rattle.node.proofs.Adding.{on_err}
 use Rattle.node.proofs.Counting.{found, missing}
-use Rattle.node.proofs.KeptValues.{lacked, not_learned, not_voted, not_known}
-use Rattle.node.proofs.Queueing.{is_true, true_is}
+use Rattle.node.proofs.KeptValues.{lacked, not_learned, not_known}
 use Rattle.node.proofs.node.Node.unkept.Goals as goal
-
-off : true ≡ false → ⊥
-off e = cc
 
 module _ {D : Type 0} (code : Running D) (s : Node) (stands : IsNodeOf code s) (i : ℕ) (v : Value) (there : Some v ≡ logged code.known.log i) where
   known : s.known i ≡ Some v
   known = sym (stands.parts.known.values i) ∙ sym there
 
-  vote_is : (slot : Slot) → slot ≡ slot_at code.store.recorded.slots i → slot.vote ≡ last_vote i s.entries
-  vote_is slot is = ap (λ (x : Slot). x.vote) is ∙ (stands.parts.on_record.kept.slots i).vote
-
   -- by what was found in memory
-  is_unkept : (slot : Slot) → slot ≡ slot_at code.store.recorded.slots i → value_at code.store.recorded.slots i ≡ None → ¬ IsVoteFor slot.vote v → IsUnkept s i v
-  is_unkept slot is none other = lacked s i v known (value_at code.store.recorded.slots i) slot.vote (stands.parts.on_record.kept.learned i) (vote_is slot is) none other
+  is_unkept : value_at code.store.recorded.slots i ≡ None → IsUnkept s i v
+  is_unkept none = lacked s i v known (value_at code.store.recorded.slots i) (stands.parts.on_record.kept.learned i) none
 
 pub returns-in_default-clause-unkept : goal.returns-in_default-clause-unkept
 returns-in_default-clause-unkept g c s stands = not_known s c.args.instance (sym (stands.parts.known.values c.args.instance) ∙ sym c.in_default.ensures)
@@ -36,13 +27,6 @@ returns-then-is_some-clause-unkept g c s stands =
     let v : Value = c.in-Some.value.now in
     let learned = value_at c.args.self.now.store.recorded.slots i in
     not_learned s i v (known c.args.self.now s stands i v c.in-Some.ensures) learned (stands.parts.on_record.kept.learned i) (found c.learned.result learned c.learned.ensures (sym c.is_some.ensures ∙ c.if-is_some.true))
-
-pub returns-then-is_vote_for-clause-unkept : goal.returns-then-is_vote_for-clause-unkept
-returns-then-is_vote_for-clause-unkept g c s stands =
-    let code = c.args.self.now in
-    let i = c.args.instance in
-    let v : Value = c.in-Some.value.now in
-    not_voted s i v (known code s stands i v c.in-Some.ensures) c.slot.result.now.vote (vote_is code s stands i v c.in-Some.ensures c.slot.result.now c.slot.ensures) (c.is_vote_for.ensures.0 (is_true c.is_vote_for.result c.if-is_vote_for.true))
 
 -- no known value is so long
 pub returns-then-as_bytes-gt-MAX_VALUE-clause-unkept : goal.returns-then-as_bytes-gt-MAX_VALUE-clause-unkept
@@ -59,8 +43,7 @@ returns-clause-unkept g c s stands =
     let i = c.args.instance in
     let v : Value = c.in-Some.value.now in
     subst (λ (u : Value). IsUnkept s i u) (sym c.in_ok-try_clone.ensures)
-    (is_unkept code s stands i v c.in-Some.ensures c.slot.result.now c.slot.ensures (missing c.learned.result (value_at code.store.recorded.slots i) c.learned.ensures (sym c.is_some.ensures ∙ c.if-is_some.false))
-    (λ own. off (sym (true_is c.is_vote_for.result (c.is_vote_for.ensures.1 own)) ∙ c.if-is_vote_for.false)))
+    (is_unkept code s stands i v c.in-Some.ensures (missing c.learned.result (value_at code.store.recorded.slots i) c.learned.ensures (sym c.is_some.ensures ∙ c.if-is_some.false)))
 
 pub returns-in_err-try_clone-clause-wanted : goal.returns-in_err-try_clone-clause-wanted
 returns-in_err-try_clone-clause-wanted g c =
@@ -69,8 +52,7 @@ returns-in_err-try_clone-clause-wanted g c =
     let v : Value = c.in-Some.value.now in
     on_err c.from_residual.result (λ (s : Node) (stands : IsNodeOf code s). (
       v,
-      is_unkept code s stands i v c.in-Some.ensures c.slot.result.now c.slot.ensures (missing c.learned.result (value_at code.store.recorded.slots i) c.learned.ensures (sym c.is_some.ensures ∙ c.if-is_some.false))
-          (λ own. off (sym (true_is c.is_vote_for.result (c.is_vote_for.ensures.1 own)) ∙ c.if-is_vote_for.false)),
+      is_unkept code s stands i v c.in-Some.ensures (missing c.learned.result (value_at code.store.recorded.slots i) c.learned.ensures (sym c.is_some.ensures ∙ c.if-is_some.false)),
     ))
 
 pub returns-clause-new : goal.returns-clause-new
