@@ -96,7 +96,7 @@ module _ {D : Type 0} (stands_for : D → DiskState → Type 0) where
   -- ---- then requests are answered
 
   module _ (old : Running D) (mid new : Served D) (came : List (List ℕ)) (malformed : ℕ) (letters : List (To × List ℕ)) (whose : StaysWhose old mid.node) (batched : IsBatched stands_for came malformed letters old mid.node)
-      (k : ℕ) (few : k ≤ 64) (taken : MaySubmitMany offered k mid new)
+      (k : ℕ) (few : k ≤ 6400) (taken : MaySubmitMany offered k mid new)
     where
       pub answered : LeadsSealed stands_for old new.node (TakesStep old.cluster old.me came letters new.node.releases)
       answered =

@@ -43,7 +43,7 @@ MayTakeMany n p (suc k) s next = (mid : Node) × MayTakeMany n p k s mid × MayT
 -- ---- a step
 
 -- A step: these datagrams are one batch, and after it these values are published. These letters are what the
--- batch handed out, each message once. Then requests are answered, 64 at most
+-- batch handed out, each message once. Then requests are answered: of 64 clients at most, 100 of each at most
 pub record TakesStep (n p : ℕ) (came : List (List ℕ)) (letters : List (To × List ℕ)) (fed : List (List ℕ))
     (s next : Node) : Type 0 where
   pub last : LastCall
@@ -53,7 +53,7 @@ pub record TakesStep (n p : ℕ) (came : List (List ℕ)) (letters : List (To ×
   pub batch : TakesBatch last n p came malformed out fed s mid
   pub letters_are : letters ≡ spelled_of out
   pub requests : ℕ
-  pub few : requests ≤ 64
+  pub few : requests ≤ 6400
   pub takes : MayTakeMany n p requests mid next
 
 -- a step that ends its server: its batch is given up; or the batch is whole, and an allocation failed as what

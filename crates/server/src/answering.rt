@@ -20,8 +20,8 @@ pub(crate) fn is_returning<D: Disk>(returning: Returning, node: &Node<D>, now: u
     returning.is_due(now, node.known())
 }
 
-/// Answers at most one request of each client, and none while the server is coming back. Returns whether
-/// there was one.
+/// Answers the requests of each client that are there, and none while the server is coming back. Returns
+/// whether there was one.
 pub(crate) fn answer<D: Disk, S: Drop>(
     returning: Returning,
     seats: &mut Seats<S>,
@@ -30,7 +30,7 @@ pub(crate) fn answer<D: Disk, S: Drop>(
 ) -> Result<bool, AllocError>
     ensures each { OnOk result (AnswersOrLeaves returning now seats.old.times served.old served.new seats.old.seats.items seats.new.seats.items) }
     ensures tells { IfOk result (λ answered. TellsAnswered answered (length seats.old.seats.items) seats.old.seats.items seats.new.seats.items) }
-    ensures taken { (n : ℕ) × (n ≤ 64) × MaySubmitMany offered n served.old served.new }
+    ensures taken { (n : ℕ) × (n ≤ 6400) × MaySubmitMany offered n served.old served.new }
     ensures same { seats.new.times ≡ seats.old.times }
 {
     if is_returning(returning, &served.node, now) {

@@ -1,10 +1,10 @@
--- Within the budget, and in time.
-use Rattle.std.proofs.Common.{◌≡◌, ◌⊎◌, inl, inr, ℕ, ◌+◌, ◌-◌, ◌*◌, ◌/◌, ◌^◌, ◌≤◌, min, max, Bool, true, false, Option, Some, None, refl, sym, ap, subst, ◌∙◌, arith}
-use Rattle.std.specs.Prelude.{nat_le, nat_lt, ◌||◌, if◌then◌else◌}
+-- Within the budget, in time, and with ever more patience.
+use Rattle.std.proofs.Common.{◌≡◌, ◌⊎◌, inl, inr, ℕ, ◌+◌, ◌-◌, ◌*◌, ◌/◌, ◌^◌, ◌<◌, ◌≤◌, min, max, Bool, true, false, Option, Some, None, refl, sym, ap, subst, ◌∙◌, arith}
+use Rattle.std.specs.Prelude.{nat_eq, nat_le, nat_lt, ◌||◌, if◌then◌else◌}
 use Rattle.std.proofs.Math.Nat.{mul-le-mul_left}
 use Rattle.std.proofs.lemmas.Bool.Decides.{nat_tests}
 use Rattle.server_pace.specs.Courses.{asked_again, first_course, flight_of, heard_on, is_open, moved_on, stretches_to, told_on}
-use Rattle.server_pace.specs.Laws.{BeginsWithin, ComesInTime, HasBudgets, HearsWithin, IsAsked, IsWithin, TellsWithin}
+use Rattle.server_pace.specs.Laws.{BeginsWithin, ComesInTime, HasBudgets, HearsWithin, IsAsked, IsWithin, PatienceGrows, TellsWithin}
 use Rattle.server_pace.specs.Turns.{keeping_or, telling_or}
 use Rattle.site_drive.specs.declared.last_call.LastCall.TheVariants.{Ask, Nothing, TickOrAsk, Widen}
 use Rattle.server_pace.specs.declared.course.Course.{Course}
@@ -84,3 +84,12 @@ is_asked due question = by due.fresh due.block due.tick due.goes_on due.question
     by false None false true q fresh tick on is = inr (refl, inr (inr on))
     by false None false false true fresh tick on is = inl refl
     by false None false false false fresh tick on is = absurd (cc)
+
+pub patience_grows : PatienceGrows
+patience_grows t times now stake some below = by (nat_eq t.ticks 0) stake refl
+  where
+    by : (b s : Bool) → nat_eq t.ticks 0 ≡ b
+        → t.longer + times.longer < max (min (min (t.ticks + 1) (2 ^ 32 - 1) + 1) times.growth) (max (if b then t.longer else min (t.longer + times.longer) (2 ^ 32 - 1)) (if s then 0 else times.longer) + 1)
+    by true s is = absurd (some (grind (arith, nat_tests, is)))
+    by false true is = omega (arith, below)
+    by false false is = omega (arith, below)

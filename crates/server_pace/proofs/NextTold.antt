@@ -23,9 +23,9 @@ module _ (q : Questions) (teller : Teller) (s : Node) (p : ℕ) where
   tells_alike : (c : Course) (t u : Telling) → StandsSo q teller s p c t → StandsSo q teller s p c u → Tells t → Tells u
   tells_alike c t u x y tells =
       let full : t.full ≡ u.full = alike t.full u.full _ x.full y.full in
-      let turn : t.turn ≡ u.turn = alike t.turn u.turn _ x.turn y.turn in
+      let turn : t.turn ≡ u.turn = x.turn ∙ sym y.turn in
       let asked : t.asked ≡ u.asked = x.asked ∙ sym y.asked in
-      let is_known : t.known ≡ u.known = x.known ∙ sym y.known in
+      let is_known : t.known ≡ u.known = alike t.known u.known _ x.known y.known in
       let is_calm : t.calm ≡ u.calm = x.calm ∙ sym y.calm in
       let votes : t.votes ≡ u.votes = x.votes ∙ sym y.votes in (
         ⊎_elim (λ f. inl (sym full ∙ f))

@@ -1,14 +1,16 @@
--- What holds of every server that is behind, and of every one that tells it.
-use Rattle.std.specs.Prelude.{◌≡◌, ◌⊎◌, ℕ, ◌+◌, ◌*◌, ◌≤◌, Bool, true}
+-- What holds of every server that tries, of every one that is behind, and of every one that tells it.
+use Rattle.std.specs.Prelude.{◌≡◌, ◌≢◌, ◌⊎◌, ℕ, ◌+◌, ◌*◌, ◌^◌, ◌<◌, ◌≤◌, Bool, true}
 use Rattle.node.specs.declared.TheConstants.{MAX_TOLD}
 use Rattle.site_drive.specs.declared.last_call.LastCall.TheVariants.{Ask, TickOrAsk}
 use Rattle.server_pace.specs.Courses.{first_course, heard_on, is_open, told_on}
+use Rattle.server_pace.specs.Pacing.{ticked, waited}
 use Rattle.server_pace.specs.Questioning.{asking_of, Asks}
 use Rattle.server_pace.specs.Turns.{call_behind}
 use Rattle.server_pace.specs.declared.course.Course.{Course}
 use Rattle.server_pace.specs.declared.due.Due.{Due}
 use Rattle.server_pace.specs.declared.last_question.LastQuestion.{LastQuestion}
 use Rattle.server_pace.specs.declared.seen.Seen.{Seen}
+use Rattle.server_pace.specs.declared.ticking.Ticking.{Ticking}
 use Rattle.server_times.specs.Timing.{asks_after, passed}
 use Rattle.server_times.specs.declared.times.Times.{Times}
 
@@ -46,3 +48,10 @@ abbrev pub IsAsked : Type 0
 IsAsked = (due : Due) → due.question ≡ true
     → (call_behind due ≡ Ask)
     ⊎ ((call_behind due ≡ TickOrAsk) × ((due.fresh ≡ true) ⊎ ((due.tick ≡ true) ⊎ (due.goes_on ≡ true))))
+
+-- After a tick in vain that a majority answered a server waits longer than before it, as far as the number of
+-- patiences can be counted: there is no other bound
+abbrev pub PatienceGrows : Type 0
+PatienceGrows = (t : Ticking) (times : Times) (now : ℕ) (stake : Bool) → t.ticks ≢ 0
+    → t.longer + times.longer < 2 ^ 32
+    → t.longer + times.longer < waited (ticked t times now true) times stake

@@ -7,6 +7,7 @@ use Rattle.site_ids.specs.NodeSets.{no_nodes, with_node, has_node, count_of, Are
 use Rattle.site_ids.specs.declared.value.Vote.{Vote}
 use Rattle.durable.specs.Entries.{last_vote, IsPromise}
 use Rattle.node.specs.Nodes.{Node, Value, IsKnownPrefix, WantsTick}
+use Rattle.node.specs.Tellings.{IsRemembered}
 use Rattle.server_pace.specs.Keeping.{keeping_after, owed_at, IsNextBlock}
 use Rattle.server_pace.specs.Questioning.{asking_of, no_questions, AreAsked, Asks, TellsNext}
 use Rattle.server_pace.specs.Places.{places_behind}
@@ -214,8 +215,12 @@ pub record Resumes (s : Node) (me known recorded : ℕ) : Type 0 where
   pub more : known < recorded
   pub idle : IsIdle s
 
+-- where so many values are known: the value of the first unknown instance is on record as learned
+abbrev pub HasKept : Node → ℕ → Type 0
+HasKept s known = IsInstance (suc known) × IsRemembered s (suc known)
+
 -- what node p shows: how many values it knows without a gap, whether it wants a tick, whether it has a stake,
--- and whether it decides again what is on its record
+-- whether it decides again what is on its record, and whether it kept the value after those that it knows
 pub record IsSeen (s : Node) (p recorded : ℕ) (drained : Bool) (seen : Seen) : Type 0 where
   pub known : (values : List Value) × IsKnownPrefix s values × (seen.known ≡ length values)
   pub reached : seen.reached ≡ s.reached
@@ -223,6 +228,7 @@ pub record IsSeen (s : Node) (p recorded : ℕ) (drained : Bool) (seen : Seen) :
   pub drained_is : seen.drained ≡ drained
   pub stake : IsTrue seen.stake ↔ HasStake s seen.known recorded
   pub resumes : IsTrue seen.resumes ↔ Resumes s p seen.known recorded
+  pub kept : IsTrue seen.kept ↔ HasKept s seen.known
 
 -- a server of n begins quiet, over a record whose furthest vote is there; it never asked, and no tick is wanted
 abbrev pub first_pace : Times → ℕ → ℕ → ℕ → Pace

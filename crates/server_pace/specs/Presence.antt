@@ -1,7 +1,7 @@
 -- Which nodes are there, and whose turn it is to tell one of them. Times are milliseconds since the server
 -- began.
-use Rattle.std.specs.Prelude.{◌≡◌, ℕ, zero, suc, ◌-◌, ◌<◌, ◌≤◌, List, replicate, get_or, Bool, false, not}
-use Rattle.std.specs.Prelude.{◌&&◌, nat_lt, if◌then◌else◌, Option, Some, None}
+use Rattle.std.specs.Prelude.{◌≡◌, ℕ, zero, suc, ◌-◌, ◌<◌, List, replicate, get_or, Bool, false, not, ◌||◌}
+use Rattle.std.specs.Prelude.{◌&&◌, nat_eq, nat_le, nat_lt, if◌then◌else◌, Option, Some, None}
 use Rattle.site_ids.specs.NodeSets.{no_nodes}
 use Rattle.server_pace.specs.Places.{places_behind}
 use Rattle.server_pace.specs.declared.present.Present.{Present}
@@ -30,7 +30,8 @@ before at times now p me zero = 0
 before at times now p me (suc k) =
     if comes_before at times now p me (suc k) then suc (before at times now p me k) else before at times now p me k
 
--- It is this node's turn to tell node p, behind so many questions in a row that brought that no further: the
--- first that is there has its turn at once, and each question brings the next one in
-abbrev pub HasTurn : List (Option ℕ) → Times → ℕ → ℕ → ℕ → ℕ → Type 0
-HasTurn at times now p me repeats = before at times now p me 9 ≤ repeats
+-- It is this node's turn to tell node p, after so many questions in a row that brought that no further. A node
+-- always tells itself. Of the others the first that is there has its turn at once, and each question brings
+-- the next one in
+abbrev pub has_turn : List (Option ℕ) → Times → ℕ → ℕ → ℕ → ℕ → Bool
+has_turn at times now p me repeats = nat_eq p me || nat_le (before at times now p me 9) repeats

@@ -6,11 +6,11 @@ use Rattle.site_ids.specs.declared.TheConstants.{MAX_INSTANCE}
 use Rattle.site_ids.specs.Ids.{IsInstance, IsNode}
 use Rattle.site_ids.specs.NodeSets.{no_nodes}
 use Rattle.node.specs.Nodes.{Node}
-use Rattle.node.specs.Tellings.{covered_from, IsTellable}
+use Rattle.node.specs.Tellings.{covered_from, IsRemembered, IsTellable}
 use Rattle.node.specs.declared.TheConstants.{MAX_TOLD}
 use Rattle.server_pace.specs.Courses.{course_after, is_open, told_on}
 use Rattle.server_pace.specs.Places.{places_behind}
-use Rattle.server_pace.specs.Presence.{nobody_heard, AreHeard, HasTurn}
+use Rattle.server_pace.specs.Presence.{nobody_heard, AreHeard, has_turn}
 use Rattle.server_pace.specs.declared.asking.Asking.{Asking}
 use Rattle.server_pace.specs.declared.asking.Telling.{Telling}
 use Rattle.server_pace.specs.declared.course.Course.{Course}
@@ -36,9 +36,10 @@ AsksAgain a = (a.learned ≡ 0) × (a.lacks ≡ true) × (a.waited ≡ true)
 abbrev pub Asks : Asking → Type 0
 Asks a = (a.passed ≡ true) ⊎ ((a.drained ≡ true) × (GoesFurther a ⊎ AsksAgain a))
 
--- messages were of instances that nobody tries before the first unknown one is known
+-- its record has the value of the first unknown instance; or messages were of instances that nobody tries
+-- before that one is known
 abbrev pub is_behind : Seen → Bool
-is_behind seen = nat_le (min (seen.known + MAX_TOLD) (2 ^ 32 - 1)) seen.reached
+is_behind seen = seen.kept || nat_le (min (seen.known + MAX_TOLD) (2 ^ 32 - 1)) seen.reached
 
 -- it is behind; or it knows nothing yet; or messages were of instances that it does not know, and nobody
 -- tries a value
@@ -59,12 +60,13 @@ asking_of last times now seen empty more = record {
 
 -- ---- tellings
 
--- Something is to be told: all instances of a telling; or, as it asked, what is known; or what was voted for
--- from the instance on that it asked for, where nobody tries a value and there may be such votes
+-- Something is to be told: all instances of a telling; or, as it asked, what is known or on record as learned;
+-- or what was voted for from the instance on that it asked for, if nobody tries a value and there may be such
+-- votes
 abbrev pub HasNews : Telling → Type 0
 HasNews t = (t.full ≡ true) ⊎ ((t.asked ≡ true) × ((t.known ≡ true) ⊎ ((t.calm ≡ true) × (t.votes ≡ true))))
 
--- what others may tell too is told in turn; votes are told by each
+-- values that others may tell too are told in turn; votes are told by each
 abbrev pub Tells : Telling → Type 0
 Tells t = HasNews t × ((t.known ≡ false) ⊎ (t.turn ≡ true))
 
@@ -113,10 +115,10 @@ pub record StandsSo (q : Questions) (teller : Teller) (s : Node) (p : ℕ) (cour
     (telling : Telling) : Type 0 where
   pub full : IsTrue telling.full ↔ IsFull s course.next
   pub asked : telling.asked ≡ course.asked
-  pub known : telling.known ≡ nat_le course.next teller.known
+  pub known : IsTrue telling.known ↔ IsRemembered s course.next
   pub votes : telling.votes ≡ may_have_votes course teller.furthest
   pub calm : telling.calm ≡ teller.calm
-  pub turn : IsTrue telling.turn ↔ HasTurn q.present.at teller.times teller.at p teller.me course.repeats
+  pub turn : telling.turn ≡ has_turn q.present.at teller.times teller.at p teller.me course.repeats
 
 -- node p is told next, on that course: that is due, and may set out
 pub record IsDueTo (q : Questions) (teller : Teller) (s : Node) (p : ℕ) (course : Course) : Type 0 where

@@ -12,7 +12,8 @@ pub struct Asking {
     pub drained: bool,
     /// Nobody was seen to try a value since it asked last, or what it tried itself is known, and more is on its record.
     pub calm: bool,
-    /// Messages were of instances that nobody tries before the first unknown one is known.
+    /// Its record has the value of the first unknown instance, or messages were of instances that nobody tries
+    /// before that one is known.
     pub behind: bool,
     /// Others know what it does not.
     pub lacks: bool,
@@ -52,7 +53,7 @@ pub struct Telling {
     pub full: bool,
     /// It was told nothing since its last question.
     pub asked: bool,
-    /// The first of the instances is known.
+    /// The value of the first of the instances is known, or on record as learned.
     pub known: bool,
     /// It is the one that its node asked for, and messages were of it or of a later one, or its record had a
     /// vote so far on as it began. Else there are no votes to tell.
@@ -64,16 +65,15 @@ pub struct Telling {
 }
 
 impl Telling {
-    /// Whether there is news: of all the instances; or, for a question, of what is known, and of votes where
-    /// nobody tries a value.
+    /// Whether there is news: of all the instances; or, for a question, of values that are known or on record
+    /// as learned, and of votes if nobody tries a value.
     fn has_news(self) -> bool
         ensures { IsTrue result ↔ HasNews self }
     {
         self.full || (self.asked && (self.known || (self.calm && self.votes)))
     }
 
-    /// Votes are told by each node, as a majority of them counts, and what is known by the one whose turn it
-    /// is.
+    /// Votes are told by each node, as a majority of them counts, and values by the one whose turn it is.
     pub fn is_due(self) -> bool
         ensures { IsTrue result ↔ Tells self }
     {

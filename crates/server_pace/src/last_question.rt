@@ -22,11 +22,12 @@ pub struct LastQuestion {
     pub again: u32,
 }
 
-/// Whether messages were of instances that nobody tries before the first unknown one is known.
+/// Whether its record has the value of the first unknown instance, or messages were of instances that nobody
+/// tries before that one is known.
 fn is_behind(seen: Seen) -> bool
     ensures { result ≡ is_behind seen }
 {
-    seen.known.saturating_add(MAX_TOLD) <= seen.reached
+    seen.kept || seen.known.saturating_add(MAX_TOLD) <= seen.reached
 }
 
 /// Whether others know what this server does not, as far as that shows; somebody tries a value, or not

@@ -1,6 +1,7 @@
-//! Laws of asking and telling.
+//! Laws of trying, asking and telling.
 
-ghost use Rattle.server_pace.specs.Laws.{BeginsWithin, ComesInTime, HearsWithin, IsAsked, TellsWithin};
+ghost use Rattle.server_pace.specs.Laws.{BeginsWithin, ComesInTime, HearsWithin, IsAsked, PatienceGrows};
+ghost use Rattle.server_pace.specs.Laws.{TellsWithin};
 
 /// No more is on its way to a node that asks than its budget of stretches, of 64 instances each.
 pub fn no_line_is_flooded()
@@ -13,4 +14,10 @@ pub fn no_line_is_flooded()
 pub fn questions_come_in_time()
     ensures comes { ComesInTime }
     ensures asked { IsAsked }
+{}
+
+/// After each try in vain that a majority answered a server waits longer before the next one. With a bound on
+/// that, servers far apart outbid one another for ever.
+pub fn patience_grows()
+    ensures { PatienceGrows }
 {}

@@ -22,7 +22,7 @@ pub use course::Course;
 pub use due::Due;
 pub use keeping::Keeping;
 pub use last_question::LastQuestion;
-pub use laws::{no_line_is_flooded, questions_come_in_time};
+pub use laws::{no_line_is_flooded, patience_grows, questions_come_in_time};
 pub use pace::Pace;
 pub use present::Present;
 pub use resting::Resting;

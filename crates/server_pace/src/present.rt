@@ -1,8 +1,8 @@
 //! Which nodes are there, as they were heard not long ago.
 
-ghost use Rattle.std.specs.Prelude.{◌≡◌, ◌≤◌, ◌↔◌, Some, IsTrue, if◌then◌else◌};
+ghost use Rattle.std.specs.Prelude.{◌≡◌, ◌≤◌, Some, nat_le, if◌then◌else◌};
 ghost use Rattle.site_ids.specs.NodeSets.{no_nodes, AreUnited};
-ghost use Rattle.server_pace.specs.Presence.{comes_before, is_there, nobody_heard, AreHeard, HasTurn};
+ghost use Rattle.server_pace.specs.Presence.{before, comes_before, has_turn, is_there, nobody_heard, AreHeard};
 
 use crate::places::places_behind;
 use server_times::{Times, has_passed};
@@ -78,9 +78,10 @@ impl Present {
             && places_behind(to, number) < places_behind(to, me.number())
     }
 
-    /// Whether it is this node's turn to tell that one, which asked so often in a row and came no further.
-    pub fn has_turn(&self, times: Times, now: u64, to: NodeId, me: NodeId, repeats: u32) -> bool
-        ensures { IsTrue result ↔ HasTurn self.now.at times now to me repeats }
+    /// Whether fewer of the others come before this node, to tell that one, than it asked in a row and came
+    /// no further, or as many.
+    fn comes_soon(&self, times: Times, now: u64, to: NodeId, me: NodeId, repeats: u32) -> bool
+        ensures { result ≡ nat_le (before self.now.at times now to me 9) repeats }
     {
         let mut before = 0;
         for number in 1..=9 {
@@ -89,5 +90,13 @@ impl Present {
             }
         }
         before <= repeats
+    }
+
+    /// Whether it is this node's turn to tell that one, which asked so often in a row and came no further. A
+    /// node always tells itself what it has on record: that takes no datagram.
+    pub fn has_turn(&self, times: Times, now: u64, to: NodeId, me: NodeId, repeats: u32) -> bool
+        ensures { result ≡ has_turn self.now.at times now to me repeats }
+    {
+        to.number() == me.number() || self.comes_soon(times, now, to, me, repeats)
     }
 }

@@ -194,7 +194,7 @@ impl Questions {
         Telling {
             full: is_full(node, first),
             asked: course.asked,
-            known: course.next <= teller.known,
+            known: node.remembers(first),
             votes: may_have_votes(course, teller.furthest),
             calm: teller.calm,
             turn: self

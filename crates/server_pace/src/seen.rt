@@ -3,7 +3,7 @@
 ghost use Rattle.std.specs.Prelude.{◌↔◌, suc, IsTrue};
 ghost use Rattle.node.specs.Nodes.{Node as AbstractNode};
 ghost use Rattle.node.specs.Standing.{IsNodeOf};
-ghost use Rattle.server_pace.specs.Pacing.{HasStake, IsIdle, IsSeen, IsTriedBy, IsVotedBy, Resumes};
+ghost use Rattle.server_pace.specs.Pacing.{HasKept, HasStake, IsIdle, IsSeen, IsTriedBy, IsVotedBy, Resumes};
 
 use node::Node;
 use site_disk::Disk;
@@ -26,6 +26,8 @@ pub struct Seen {
     /// It voted for the last of them at an own ballot, its record had a vote further on as it began, and it has no
     /// attempt open.
     pub resumes: bool,
+    /// The value of the first unknown instance is on its record as learned.
+    pub kept: bool,
 }
 
 /// The node to whose ballot the first unknown instance is promised, if it is, where so many values are known.
@@ -73,6 +75,16 @@ fn resumes<D: Disk>(node: &Node<D>, me: NodeId, known: u32, recorded: u32) -> bo
     known < recorded && is_voted_by(node, last, me) && is_idle(node)
 }
 
+/// Whether the value of the first unknown instance is on record as learned, where so many are known.
+fn has_kept<D: Disk>(node: &Node<D>, known: u32) -> bool
+    ensures { (s : AbstractNode) → IsNodeOf node.now s → IsTrue result ↔ HasKept s known }
+{
+    match Instance::new(known.saturating_add(1)) {
+        Some(first) => node.remembers(first),
+        None => false,
+    }
+}
+
 impl Seen {
     /// What is seen of this node, after a batch that took in all that had come, or not.
     pub(crate) fn of<D: Disk>(node: &Node<D>, me: NodeId, recorded: u32, drained: bool) -> Seen
@@ -86,6 +98,7 @@ impl Seen {
             drained,
             stake: has_stake(node, known, recorded),
             resumes: resumes(node, me, known, recorded),
+            kept: has_kept(node, known),
         }
     }
 }

@@ -40,7 +40,8 @@ pub struct Times {
     /// Milliseconds without a message of a node after which it is taken to tell nobody anything (`Present`).
     /// A node asks more often.
     pub silent: u64,
-    /// Milliseconds that a value which became known waits to be put on record, at most: others that become known meanwhile share its seal (`Keeping`).
+    /// Milliseconds that a value which became known waits to be put on record: others that become known
+    /// meanwhile share its seal (`Keeping`). What a full block leaves over waits anew.
     pub keeping: u64,
     /// So many values do not wait for others (`Keeping`).
     pub block: u32,
@@ -82,6 +83,9 @@ pub struct Times {
     /// Milliseconds for which a request for a receipt that is not there yet is left, behind the last bytes that its client sent: most values are known by
     /// then, and a client asks once.
     pub receipts: u64,
+    /// Milliseconds, after the last bytes that its client sent, for which the responses before such a request
+    /// are held back. Most receipts are there by then, and go out together with these responses (`Hold`).
+    pub holds: u64,
     /// Milliseconds that a request is given, from its first byte to the last of its response, where that is limited. An option of the command line.
     pub serve_ms: Option<u64>,
 }
@@ -118,6 +122,7 @@ const STANDARD: Times = Times {
     lingering: 2000,
     keeps_seat: 2000,
     receipts: 100,
+    holds: 5,
     serve_ms: None,
 };
 

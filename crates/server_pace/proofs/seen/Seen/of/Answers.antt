@@ -10,4 +10,5 @@ returns g c = λ s h. record {
   drained_is = refl;
   stake = c.has_stake.ensures s h;
   resumes = c.resumes.ensures s h;
+  kept = c.has_kept.ensures s h;
 }

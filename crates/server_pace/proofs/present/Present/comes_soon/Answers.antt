@@ -1,8 +1,8 @@
 use Rattle.std.proofs.Common.{rules, ◌≡◌, ◌+◌, ◌-◌, ◌<◌, ◌≤◌, ℕ, suc, Bool, true, false, ap, sym, ◌∙◌, arith}
-use Rattle.std.specs.Prelude.{if◌then◌else◌}
+use Rattle.std.specs.Prelude.{nat_le, if◌then◌else◌}
 use Rattle.server_pace.specs.Presence.{before, comes_before}
-use Rattle.server_pace.proofs.present.Present.has_turn.Goals as goal
-use Rattle.server_pace.proofs.present.Present.has_turn.Goals.{then-comes_before, else-comes_before}
+use Rattle.server_pace.proofs.present.Present.comes_soon.Goals as goal
+use Rattle.server_pace.proofs.present.Present.comes_soon.Goals.{then-comes_before, else-comes_before}
 
 -- one more comes before it, or not
 pub loop-number-preserved : goal.loop-number-preserved
@@ -30,4 +30,4 @@ returns c =
     let at = c.args.self.now.at in
     let all : c.loop-number.number - 1 ≡ 9 = omega (arith, c.loop-number-test.false, c.loop-number.auto.number-end (omega arith)) in
     let is = c.loop-number.invariant.0 ∙ ap (λ n. before at c.args.times c.args.now c.args.to c.args.me n) all in
-    search (rules, is)
+    search (rules, ap (λ n. nat_le n c.args.repeats) is)

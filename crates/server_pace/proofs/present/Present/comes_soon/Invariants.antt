@@ -1,6 +1,6 @@
 use Rattle.std.proofs.Common.{◌≡◌, ◌-◌, ◌<◌, ◌≤◌, ℕ}
 use Rattle.server_pace.specs.Presence.{before}
-use Rattle.server_pace.proofs.present.Present.has_turn.Given as goal
+use Rattle.server_pace.proofs.present.Present.comes_soon.Given as goal
 
 -- so many of those so far come before this node
 abbrev pub invariant-loop-number : goal.invariant-loop-number
