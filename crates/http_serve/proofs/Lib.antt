@@ -8,3 +8,4 @@ pub mod Running
 pub mod Examples
 pub mod Standing
 pub mod Talking
+pub mod Outboxes

@@ -1,5 +1,5 @@
 -- A connection, over all that passed on it.
-use Rattle.std.proofs.Common.{◌≡◌, ◌∙◌, ℕ, zero, suc, Bool, true, false, List, [], ◌∷◌, ◌++◌, length, Some, arith, refl, sym, ap, subst, append_assoc, append-nil}
+use Rattle.std.proofs.Common.{◌≡◌, ◌∙◌, ℕ, zero, suc, Bool, true, false, List, [], ◌++◌, Some, refl, sym, ap, subst, append_assoc}
 use Rattle.http_read.specs.declared.progress.Progress.{Progress}
 use Rattle.http_read.specs.declared.progress.Progress.TheVariants.{Head}
 use Rattle.http_read.specs.Progress.{Resumes}
@@ -12,10 +12,6 @@ use Rattle.http_serve.specs.Services.{Offered}
 use Rattle.http_serve.specs.Talks.{IsOpenTalk, IsWholeTalk}
 use Rattle.http_serve.proofs.Connecting.{some_same}
 use Rattle.http_serve.proofs.Standing.{talks_stand, one_more}
-
-nothing : (xs : List ℕ) → length xs ≡ 0 → xs ≡ []
-nothing [] none = refl
-nothing (x ∷ xs) none = absurd (omega (arith, none))
 
 none_made : {S : Type 0} (service : Offered S) → IsOpenTalk service [] [] [] zero
 none_made service = record { exchanges = []; are = (refl, refl); counted = refl }
@@ -36,9 +32,9 @@ heard service connection came said more (left, (used, resumes, is), talk) = (
   talks_stand service came left (said ++ connection.outbox) more connection.answered talk,
 )
 
--- a response that follows what was written whole
-behind_all : (said waits : List ℕ) → length waits ≡ 0 → said ++ waits ≡ said
-behind_all said waits none = ap (λ w. said ++ w) (nothing waits none) ∙ append-nil said
+-- what was written and waits, and then a response
+then_response : (said waits text all : List ℕ) → all ≡ waits ++ text → (said ++ waits) ++ text ≡ said ++ all
+then_response said waits text all is = append_assoc said waits text ∙ sym (ap (λ t. said ++ t) is)
 
 stays_on : {S : Type 0} (service : Offered S) (now after : S) (came said left response behind : List ℕ) (count : ℕ) (progress : Progress) (answered : ℕ) (stays : Bool)
     → IsOpenTalk service came left said count → Responds service (suc count) now left (Some behind) after stays response
@@ -69,15 +65,18 @@ is_last service now after came said left response behind count false talk last s
   spelled = refl;
 }
 
-answered : {S : Type 0} (service : Offered S) (old new : Connection) (now after : S) (came said : List ℕ) → length old.outbox ≡ 0 → HasTalked service old came said
+answered : {S : Type 0} (service : Offered S) (old new : Connection) (now after : S) (came said : List ℕ) → HasTalked service old came said
     → (a : IsAnswered service now after old new)
     → (a.stays ≡ true → HasTalked service new came said) × (a.stays ≡ false → HasClosed service new came said)
-answered service old new now after came said none (left, (used, resumes, is), talk) a =
-    let all : IsOpenTalk service came left said old.answered = subst (λ t. IsOpenTalk service came left t old.answered) (behind_all said old.outbox none) talk in
-    let one : Responds service (suc old.answered) now left (Some new.inbox) after a.stays new.outbox =
-    subst (λ l. Responds service (suc old.answered) now l (Some new.inbox) after a.stays new.outbox) (sym is) (a.response used resumes) in (
-      λ so. stays_on service now after came said left new.outbox new.inbox old.answered new.progress new.answered a.stays all one a.next a.counted so,
-      λ so. is_last service now after came said left new.outbox new.inbox old.answered a.stays all one so,
+answered service old new now after came said (left, (used, resumes, is), talk) a =
+    let one : Responds service (suc old.answered) now left (Some new.inbox) after a.stays a.text =
+    subst (λ l. Responds service (suc old.answered) now l (Some new.inbox) after a.stays a.text) (sym is) (a.response used resumes) in
+    let all : (said ++ old.outbox) ++ a.text ≡ said ++ new.outbox = then_response said old.outbox a.text new.outbox a.waits in (
+      λ so.
+          let on = stays_on service now after came (said ++ old.outbox) left a.text new.inbox old.answered new.progress new.answered a.stays talk one a.next a.counted so in
+          (on.0, on.1, subst (λ t. IsOpenTalk service came on.0 t new.answered) all on.2),
+      λ so. subst (λ t. IsWholeTalk service came t) all
+          (is_last service now after came (said ++ old.outbox) left a.text new.inbox old.answered a.stays talk one so),
     )
 
 waited : {S : Type 0} (service : Offered S) (old new : Connection) (came said : List ℕ) → HasTalked service old came said → Waits old new → HasTalked service new came said
@@ -105,7 +104,7 @@ pub are_talks : {S : Type 0} (service : Offered S) → AreTalks service
 are_talks service = record {
   begins = λ connection new. begins service connection new;
   heard = λ connection came said more talked. heard service connection came said more talked;
-  answered = λ old new now after came said none talked a. answered service old new now after came said none talked a;
+  answered = λ old new now after came said talked a. answered service old new now after came said talked a;
   waited = λ old new came said talked w. waited service old new came said talked w;
   told = λ old came said front rest is talked. told service old came said front rest is talked;
   told_last = λ old came said front rest is talked. told_last service old came said front rest is talked;

@@ -14,11 +14,13 @@ use Rattle.http_serve.specs.declared.outcomes.WriteOutcome.{WriteOutcome}
 use Rattle.http_serve.specs.declared.outcomes.WriteOutcome.TheVariants as write_outcome
 use Rattle.http_serve.specs.declared.replies.Message.{Message}
 use Rattle.http_serve.specs.declared.messages.TheConstants.{REQUESTS}
+use Rattle.http_serve.specs.declared.outbox.TheConstants.{WAITING}
 use Rattle.http_serve.specs.Connections.{MayRefuse}
 use Rattle.http_serve.specs.Exchanges.{Responds}
 use Rattle.http_serve.specs.Services.{Offered}
 
--- the bytes of a response that wait to be written
+-- the bytes that wait to be written: the responses to the requests that were answered, in order, without what
+-- of them is written
 abbrev pub owed : Connection → List ℕ
 owed connection = connection.outbox
 
@@ -50,10 +52,10 @@ pub record MayRead (connection : Connection) : Type 0 where
   pub state : connection.state ≡ Open
   pub room : length connection.inbox < 16384
 
--- the next request may be answered: the last response is written whole, and it wasn't the last one
+-- the next request may be answered: no last response was made, and fewer than 16 KB wait to be written
 pub record MayAnswer (connection : Connection) : Type 0 where
   pub going : is_going connection.state ≡ true
-  pub written : length connection.outbox ≡ 0
+  pub room : length connection.outbox < WAITING
   pub few : connection.answered < REQUESTS
 
 -- nothing of a request is used or held
@@ -87,15 +89,22 @@ Writes write_outcome.Written old new writer =
 Writes write_outcome.Nothing old new writer = Keeps writer.before writer.after × HasFailed writer × (new ≡ old)
 Writes write_outcome.Failed old new writer = Keeps writer.before writer.after × HasFailed writer × (new ≡ failed_connection old)
 
--- the response waits to be written. After a last one the connection is to be closed
+-- the response waits to be written, after those that wait. After a last one the connection is to be closed
 abbrev pub with_response : Connection → Message → Connection
-with_response connection m = record connection { outbox = m.bytes.items; answered = suc connection.answered; state = if m.stays then connection.state else Closing }
+with_response connection m = record connection {
+  outbox = connection.outbox ++ m.bytes.items;
+  answered = suc connection.answered;
+  state = if m.stays then connection.state else Closing;
+}
 
--- a response to the request at the front of what is left: it waits now, and what follows the request is left
+-- a response to the request at the front of what is left: it waits now, after those that wait, and what follows
+-- the request is left
 pub record IsAnswered {S : Type 0} (service : Offered S) (now after : S) (old new : Connection) : Type 0 where
   pub stays : Bool
+  pub text : List ℕ
   pub response : (used : List ℕ) → Resumes old.progress used
-      → Responds service (suc old.answered) now (used ++ old.inbox) (Some new.inbox) after stays new.outbox
+      → Responds service (suc old.answered) now (used ++ old.inbox) (Some new.inbox) after stays text
+  pub waits : new.outbox ≡ old.outbox ++ text
   pub next : new.progress ≡ Head
   pub counted : new.answered ≡ suc old.answered
   pub state : new.state ≡ (if stays then old.state else Closing)

@@ -1,5 +1,5 @@
 -- What passed on a connection: all that came on it, and all that was written.
-use Rattle.std.specs.Prelude.{◌≡◌, ℕ, true, false, List, [], ◌++◌, length}
+use Rattle.std.specs.Prelude.{◌≡◌, ℕ, true, false, List, [], ◌++◌}
 use Rattle.http_serve.specs.declared.connection.Connection.{Connection}
 use Rattle.http_serve.specs.ConnectionSteps.{HasLeft, IsNew, IsAnswered, Waits}
 use Rattle.http_serve.specs.Services.{Offered}
@@ -21,7 +21,7 @@ pub record AreTalks {S : Type 0} (service : Offered S) : Type 0 where
   pub heard : (connection : Connection) (came said more : List ℕ) → HasTalked service connection came said
       → HasTalked service (record connection { inbox = connection.inbox ++ more }) (came ++ more) said
   -- one response more was made
-  pub answered : (old new : Connection) (now after : S) (came said : List ℕ) → length old.outbox ≡ 0 → HasTalked service old came said
+  pub answered : (old new : Connection) (now after : S) (came said : List ℕ) → HasTalked service old came said
       → (a : IsAnswered service now after old new)
       → (a.stays ≡ true → HasTalked service new came said) × (a.stays ≡ false → HasClosed service new came said)
   -- no whole request was there

@@ -10,6 +10,7 @@ pub mod Faults
 pub mod Laws
 pub mod Fixed
 pub mod Talks
+pub mod Outboxes
 pub mod ConnectionSteps
 pub mod Fronts
 pub mod ConnectionTalks

@@ -7,12 +7,13 @@ ghost use Rattle.std.specs.Prelude.{◌≡◌, ◌⊎◌, ◌<◌, ℕ, List, le
 ghost use Rattle.http_read.specs.Bytes.{end_of};
 ghost use Rattle.http_serve.specs.Fronts.{AsksReceipt, HasAsked};
 ghost use Rattle.http_serve.specs.declared.messages.TheConstants.{REQUESTS};
+ghost use Rattle.http_serve.specs.declared.outbox.TheConstants.{WAITING};
 ghost use Rattle.http_serve.specs.ConnectionSteps.{owed, is_going, IsNew, MayRead, MayAnswer, IsIdle, IsDone, failed_connection, with_response, waiting, Reads, Writes, IsAnswered, Waits, GivesUp, answered as answered_of};
 ghost use Rattle.http_serve.specs.Services.{MaySubmit};
 
 use crate::front::receipt_asked;
 use crate::messages::{REQUESTS, next_response};
-use crate::outbox::Outbox;
+use crate::outbox::{Outbox, Spare};
 use crate::outcomes::{ReadOutcome, WriteOutcome, is_early};
 use crate::replies::Message;
 use crate::service::Service;
@@ -38,10 +39,10 @@ pub(crate) enum ConnectionState {
 /// A client's connection, without what carries its bytes: a server holds many at once, and none waits for another.
 ///
 /// A server reads with `read_from` if the connection `may_read`, makes responses with `advance`, writes with
-/// `write_to` if the connection `owes` something, and closes it if it `is_done`. A response is made only
-/// after the one before it is written whole. So it stays where it was made, and nothing is allocated after a
-/// submission that was accepted. Reading goes on meanwhile, up to 16 KB. After bytes that came, after the end
-/// of the client's input, and after a response that was written whole, `advance` is called again.
+/// `write_to` if the connection `owes` something, and closes it if it `is_done`. A client may send many
+/// requests at once. Their responses wait one after another, and go out together. While 16 KB of them wait, no
+/// further request is answered. Reading goes on meanwhile, up to 16 KB. After bytes that came, after the end of
+/// the client's input, and after bytes that were written, `advance` is called again, until it returns false.
 #[derive(Drop)]
 pub struct Connection {
     inbox: Inbox,
@@ -107,7 +108,7 @@ impl Connection {
     fn may_answer(&self) -> bool
         ensures { IsTrue result ↔ MayAnswer self.now }
     {
-        self.state.is_going() && self.outbox.is_empty() && self.answered < REQUESTS
+        self.state.is_going() && self.outbox.has_room() && self.answered < REQUESTS
     }
 
     /// The ticket whose receipt the next request asks for, if that request may be answered now. Its first
@@ -135,7 +136,7 @@ impl Connection {
         }
     }
 
-    /// Answers the next request, if a whole one is there and the response before it is written whole. Returns
+    /// Answers the next request, if a whole one is there and fewer than 16 KB wait to be written. Returns
     /// whether it did.
     ///
     /// At most a hundred of a connection's requests are answered. The last response says so (`Connection:
@@ -164,10 +165,11 @@ impl Connection {
             spans,
             service,
             self.answered,
+            &self.outbox,
         );
         match found {
-            Ok(Some(message)) => {
-                self.put(message);
+            Ok(Some((message, spare))) => {
+                self.put(message, spare);
                 Ok(true)
             }
             Ok(None) => {
@@ -181,12 +183,14 @@ impl Connection {
         }
     }
 
-    /// A response is to be written. After a last one nothing more is read or answered.
-    fn put(&mut self, message: Message)
-        requires { self.old.answered < REQUESTS }
+    /// A response is to be written, after those that wait. After a last one nothing more is read or answered.
+    fn put(&mut self, message: Message, spare: Option<Spare>)
+        requires few { self.old.answered < REQUESTS }
+        requires room { length (owed self.old) < WAITING }
+        requires spare { MatchOption spare (length (owed self.old) ≡ 0) (λ _. 0 < length (owed self.old)) }
         ensures { self.new ≡ with_response self.old message }
     {
-        self.outbox.put(message.bytes);
+        self.outbox.put(message.bytes, spare);
         self.answered += 1;
         if !message.stays {
             self.state = ConnectionState::Closing;

@@ -1,11 +1,12 @@
 //! The response to what was read of a connection.
-ghost use Rattle.std.specs.Prelude.{◌≡◌, ◌&&◌, ◌+◌, ◌<◌, ◌++◌, ℕ, suc, nat_lt, true, List, Option, None, IfOk, IfSome, IfNone, OnErr};
+ghost use Rattle.std.specs.Prelude.{◌≡◌, ◌&&◌, ◌+◌, ◌<◌, ◌++◌, ℕ, suc, nat_lt, true, List, Option, None, IfOk, IfSome, IfNone, MatchOption, OnErr, length};
 ghost use Rattle.http_read.specs.Incoming.{Shows};
 ghost use Rattle.http_read.specs.Progress.{Resumes, Waits};
 ghost use Rattle.http_serve.specs.Connections.{MayRefuse};
 ghost use Rattle.http_serve.specs.Exchanges.{Finds, Responds};
 ghost use Rattle.http_serve.specs.Services.{MaySubmit};
 
+use crate::outbox::{Outbox, Spare};
 use crate::replies::Message;
 use crate::responding::{refused, respond};
 use crate::service::Service;
@@ -50,6 +51,7 @@ pub(crate) fn message_for<S: Service>(
 }
 
 /// The response to the next request, after the requests that were answered so far; none if it is not whole.
+/// With it comes its room in the outbox, which is made before the request is answered.
 pub(crate) fn next_response<S: Service>(
     alloc: Global,
     progress: &mut Progress,
@@ -57,17 +59,25 @@ pub(crate) fn next_response<S: Service>(
     spans: &mut Vec<HeaderSpan>,
     service: &mut S,
     answered: u32,
-) -> Result<Option<Message>, AllocError>
-    ensures response { IfOk result (λ found. IfSome found (λ message. (used : List ℕ) → Resumes progress.old used
-        → Responds S.offered (suc answered) service.old (used ++ inbox.old) (Some inbox.new) service.new message.stays message.bytes.items)) }
+    outbox: &Outbox,
+) -> Result<Option<(Message, Option<Spare>)>, AllocError>
+    ensures response { IfOk result (λ found. IfSome found (λ made. (used : List ℕ) → Resumes progress.old used
+        → Responds S.offered (suc answered) service.old (used ++ inbox.old) (Some inbox.new) service.new
+        made.0.stays made.0.bytes.items)) }
     ensures next { IfOk result (λ found. IfSome found (λ _. progress.new ≡ Progress.Head)) }
-    ensures few { IfOk result (λ found. IfSome found (λ message. message.stays ≡ true → answered + 1 < 100)) }
+    ensures few { IfOk result (λ found. IfSome found (λ made. made.0.stays ≡ true → answered + 1 < 100)) }
+    ensures room { IfOk result (λ found. IfSome found (λ made.
+        MatchOption made.1 (length outbox.now ≡ 0) (λ _. 0 < length outbox.now))) }
     ensures waits { IfOk result (λ found. IfNone found (Waits progress.old progress.new inbox.old inbox.new × (service.new ≡ service.old))) }
     ensures refused { OnErr result ((used : List ℕ) → Resumes progress.old used → MayRefuse S.offered (used ++ inbox.old) service.old service.new) }
     ensures taken { MaySubmit S.offered service.old service.new }
 {
-    match advance(alloc, progress, inbox, spans)? {
-        Some(incoming) => message_for(alloc, incoming, service, answered),
+    let Some(incoming) = advance(alloc, progress, inbox, spans)? else {
+        return Ok(None);
+    };
+    let spare = outbox.spare(alloc)?;
+    match message_for(alloc, incoming, service, answered)? {
+        Some(message) => Ok(Some((message, spare))),
         None => Ok(None),
     }
 }

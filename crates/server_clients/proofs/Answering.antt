@@ -1,13 +1,13 @@
 -- Turns one after another.
 use Rattle.std.proofs.Common.{◌≡◌, ◌≢◌, ◌+◌, ◌≤◌, ◌<◌, ◌||◌, ℕ, zero, suc, Bool, true, false, List, length, ap, get_or, set, inl, inr, arith, below_more, refl, sym, subst, ◌∙◌}
-use Rattle.std.specs.Prelude.{◌⊎◌, Option, Some, None, is_some, not}
-use Rattle.std.proofs.lemmas.Bool.{false≢true}
+use Rattle.std.specs.Prelude.{◌⊎◌, Option, Some, None, is_some, nat_lt, not, Result, Ok, Err, IfOk}
+use Rattle.std.proofs.lemmas.Bool.{false≢true, lt-ltb}
 use Rattle.std.proofs.lemmas.List.{get_or-set_other, get_or-set_same}
 use Rattle.http_serve.specs.ConnectionSteps.{IsAnswered, MayAnswer, Waits}
-use Rattle.http_serve.specs.Services.{Offered}
+use Rattle.http_serve.specs.Services.{MaySubmitMany, Offered}
 use Rattle.http_serve.specs.declared.connection.Connection.{Connection}
 use Rattle.server_times.specs.declared.times.Times.{Times}
-use Rattle.server_clients.specs.Answering.{AreTurns, CountsAnswered, IsLeft, IsTurn, MayBeAnswered, TellsAnswered}
+use Rattle.server_clients.specs.Answering.{AreMore, AreTurns, CountsAnswered, IsAtEnd, IsLeft, IsOneMore, IsTurn, MayBeOneMore, NoneAnswered, TellsAnswered}
 use Rattle.server_clients.specs.declared.seat.Seat.{Seat}
 
 -- nothing is found where it is told so, and is told where nothing is found
@@ -22,7 +22,11 @@ found_none found false told is = absurd (false≢true (sym (ap is_some is) ∙ t
 module _ {T : Type 0} where
   -- a write after them leaves what is told of them
   tells_on : (told : Bool) (i : ℕ) (old new : List (Seat T)) (y : Seat T) → TellsAnswered told i old new → TellsAnswered told i old (set new i y)
-  tells_on true i old new y (at, below, more) = (at, below, λ none. subst (λ s. s.connection.answered ≡ suc (get_or old at none).connection.answered) (sym (get_or-set_other new i at y none (omega (arith, below)))) (more none))
+  tells_on true i old new y (at, below, more) = (
+    at,
+    below,
+    λ none. subst (λ s. (get_or old at none).connection.answered < s.connection.answered) (sym (get_or-set_other new i at y none (omega (arith, below)))) (more none),
+  )
   tells_on false i old new y same = λ at below none. subst (λ s. s.connection.answered ≡ (get_or old at none).connection.answered) (sym (get_or-set_other new i at y none (omega (arith, below)))) (same at below none)
 
   -- one turn more
@@ -32,24 +36,12 @@ module _ {T : Type 0} where
   tells_more false true i old new x y within is told counted = (
     i,
     omega arith,
-    λ none. subst (λ s. s.connection.answered ≡ suc (get_or old i none).connection.answered) (sym (get_or-set_same new i y none within)) (subst (λ s. y.connection.answered ≡ suc s.connection.answered) (sym (is none)) counted),
+    λ none. subst (λ s. (get_or old i none).connection.answered < s.connection.answered) (sym (get_or-set_same new i y none within)) (subst (λ s. s.connection.answered < y.connection.answered) (sym (is none)) counted),
   )
   tells_more false false i old new x y within is told counted =
       let same : ℕ → Type 0 = λ k. (none : Seat T) → (get_or (set new i y) k none).connection.answered ≡ (get_or old k none).connection.answered in
       below_more same i (tells_on false i old new y told)
       (λ none. subst (λ s. s.connection.answered ≡ (get_or old i none).connection.answered) (sym (get_or-set_same new i y none within)) (subst (λ s. y.connection.answered ≡ s.connection.answered) (sym (is none)) counted))
-
-module _ {S : Type 0} (service : Offered S) where
-  -- what a connection's answering did
-  answering_of : (did : Bool) (now after : S) (old new : Connection) → (did ≡ true → MayAnswer old × IsAnswered service now after old new)
-      → (did ≡ false → (after ≡ now) × (((¬ (MayAnswer old)) × (new ≡ old)) ⊎ (MayAnswer old × Waits old new))) → MayBeAnswered service now after old new
-  answering_of true now after old new answered idle = inl (answered refl)
-  answering_of false now after old new answered idle =
-      let i = idle refl in
-      elim i.1 [
-        | inl h ↦ inr (inr (h.0, h.1, i.0))
-        | inr h ↦ inr (inl (h.0, h.1, i.0))
-      ]
 
 module _ {S T : Type 0} (service : Offered S) (times : Times) (time : ℕ) where
   -- a write after them leaves them
@@ -74,19 +66,55 @@ module _ {S T : Type 0} (service : Offered S) (times : Times) (time : ℕ) where
             (subst (λ z. IsTurn service times time mid after x z) (sym (get_or-set_same new i y none within)) turn),
       )
 
-  -- what it told of its turn
-  pub counted_of : (did : Bool) (now after : S) (x : Seat T) (connection : Connection) → (did ≡ true → MayAnswer x.connection × IsAnswered service now after x.connection connection)
-      → (did ≡ false → (after ≡ now) × (((¬ (MayAnswer x.connection)) × (connection ≡ x.connection)) ⊎ (MayAnswer x.connection × Waits x.connection connection))) → CountsAnswered did x (record x { connection = connection })
-  counted_of true now after x connection answered idle = (answered refl).1.counted
-  counted_of false now after x connection answered idle =
-      let i = idle refl in
-      elim i.1 [
-        | inl h ↦ ap (λ l. l.answered) h.1
-        | inr h ↦ h.1.answered
-      ]
-
-  pub seat_turn : (did : Bool) (now after : S) (x : Seat T) (connection : Connection) → ¬ (IsLeft service times time now x)
+  -- what the answering of a connection did
+  pub next_is : (did : Bool) (now after : S) (x : Seat T) (connection : Connection) → ¬ (IsLeft service times time now x)
       → (did ≡ true → MayAnswer x.connection × IsAnswered service now after x.connection connection)
       → (did ≡ false → (after ≡ now) × (((¬ (MayAnswer x.connection)) × (connection ≡ x.connection)) ⊎ (MayAnswer x.connection × Waits x.connection connection)))
-      → IsTurn service times time now after x (record x { connection = connection })
-  seat_turn did now after x connection stays answered idle = inr (stays, answering_of service did now after x.connection connection answered idle, refl)
+      → MayBeOneMore service times time did now after x (record x { connection = connection })
+  next_is true now after x connection stays answered idle =
+      let a = answered refl in
+      record { due = stays; may = a.0; answered = a.1; carried = refl }
+  next_is false now after x connection stays answered idle =
+      let i = idle refl in
+      let none : NoneAnswered x.connection connection = elim i.1 [
+        | inl h ↦ inr h
+        | inr h ↦ inl h
+      ] in
+      (i.0, inr (stays, none, refl))
+
+  pub next_of : {E : Type 0} (r : Result Bool E) (now after : S) (x : Seat T) (connection : Connection) → ¬ (IsLeft service times time now x)
+      → IfOk r (λ did. did ≡ true → MayAnswer x.connection × IsAnswered service now after x.connection connection)
+      → IfOk r (λ did. did ≡ false → (after ≡ now) × (((¬ (MayAnswer x.connection)) × (connection ≡ x.connection)) ⊎ (MayAnswer x.connection × Waits x.connection connection)))
+      → IfOk r (λ did. MayBeOneMore service times time did now after x (record x { connection = connection }))
+  next_of (Ok did) now after x connection stays answered idle = next_is did now after x connection stays answered idle
+  next_of (Err e) now after x connection stays answered idle = tt
+
+  -- one request more
+  pub one_more : (k : ℕ) (now mid after : S) (old between new : Seat T) → AreMore service times time k now mid old between
+      → IsOneMore service times time mid after between new → AreMore service times time (k + 1) now after old new
+  one_more k now mid after old between new earlier one =
+      let at : suc k ≡ k + 1 = omega arith in
+      subst (λ n. AreMore service times time n now after old new) at (mid, between, earlier, one)
+
+  -- how many were answered, if no further one is
+  pub end_counts : (now : S) (old new : Seat T) → IsAtEnd service times time now old new → new.connection.answered ≡ old.connection.answered
+  end_counts now old new (inl left) = ap (λ s. s.connection.answered) left.1
+  end_counts now old new (inr (stays, inl waits, same)) = waits.1.answered
+  end_counts now old new (inr (stays, inr none, same)) = ap (λ c. c.answered) none.1
+
+-- the client has so many responses more
+pub counts_of : {T : Type 0} (k : ℕ) (old new : Seat T) → new.connection.answered ≡ old.connection.answered + k → CountsAnswered (nat_lt 0 k) old new
+counts_of zero old new more = omega (arith, more)
+counts_of (suc k) old new more =
+    let some : old.connection.answered < new.connection.answered = omega (arith, more) in
+    subst (λ told. CountsAnswered told old new) (sym (lt-ltb 0 (suc k) (omega arith))) some
+
+-- so many submissions, and then so many more
+pub many_then : {S : Type 0} (service : Offered S) (n k : ℕ) (now mid after : S) → MaySubmitMany service n now mid → MaySubmitMany service k mid after
+    → MaySubmitMany service (n + k) now after
+many_then service n zero now mid after earlier same =
+    let at : n ≡ n + 0 = omega arith in
+    subst (λ m. MaySubmitMany service m now after) at (subst (λ s. MaySubmitMany service n now s) (sym same) earlier)
+many_then service n (suc k) now mid after earlier (last, more, one) =
+    let at : suc (n + k) ≡ n + suc k = omega arith in
+    subst (λ m. MaySubmitMany service m now after) at (last, many_then service n k now mid last earlier more, one)

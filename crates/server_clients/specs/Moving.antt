@@ -1,6 +1,6 @@
 -- Clients' bytes: what one reading and one writing do to a seat, and to all of them. Moments are milliseconds
 -- since the server began.
-use Rattle.std.specs.Prelude.{◌≡◌, ◌⊎◌, ◌<◌, ◌≤◌, ℕ, Bool, true, false, List, length, get_or, Option, Some}
+use Rattle.std.specs.Prelude.{◌≡◌, ◌⊎◌, ◌<◌, ◌≤◌, ◌-◌, ℕ, Bool, true, false, List, length, get_or, Option, Some}
 use Rattle.std.specs.Prelude.{None, unwrap_or}
 use Rattle.http_read.specs.Bytes.{end_of}
 use Rattle.http_serve.specs.ConnectionSteps.{owed, IsIdle, MayRead, Reads, Writes}
@@ -9,6 +9,7 @@ use Rattle.http_serve.specs.declared.outcomes.ReadOutcome.{ReadOutcome}
 use Rattle.http_serve.specs.declared.outcomes.ReadOutcome.TheVariants as read_outcome
 use Rattle.http_serve.specs.declared.outcomes.WriteOutcome.{WriteOutcome}
 use Rattle.http_serve.specs.declared.outcomes.WriteOutcome.TheVariants as write_outcome
+use Rattle.server_times.specs.declared.times.Times.{Times}
 use Rattle.server_clients.specs.declared.seat.Seat.{Seat}
 
 -- ---- one seat
@@ -54,12 +55,18 @@ TimesWritten write_outcome.Written now old new = (new.moved ≡ now) × (new.cam
     × (length (owed new.connection) ≡ 0 → ¬ (IsIdle new.connection) → new.begun ≡ Some now)
 TimesWritten _ now old new = SameTimes old new
 
--- What its own connection owes is written to its own stream once, if it owes anything. Whether anything went
--- is said
-abbrev pub IsWrittenOnce : {T : Type 0} → (T → Option (List ℕ)) → ℕ → Bool → Seat T → Seat T → Type 0
-IsWrittenOnce contents now went old new =
-    ((length (owed old.connection) ≡ 0) × (went ≡ false) × (new ≡ old))
-    ⊎ ((0 < length (owed old.connection)) × (outcome : WriteOutcome)
+-- What its connection owes is held back: the next request is there whole and asks for a receipt, and its client
+-- sent the last bytes not long ago. A step answers each such request unless it is left, so it is left
+pub record IsHeld {T : Type 0} (times : Times) (now : ℕ) (seat : Seat T) : Type 0 where
+  pub asks : HasAsked seat.connection
+  pub soon : now - seat.came < times.holds
+
+-- What its own connection owes is written to its own stream once, if it owes anything and that is not held
+-- back. Whether anything went is said
+abbrev pub IsWrittenOnce : {T : Type 0} → (T → Option (List ℕ)) → Times → ℕ → Bool → Seat T → Seat T → Type 0
+IsWrittenOnce contents times now went old new =
+    (((length (owed old.connection) ≡ 0) ⊎ IsHeld times now old) × (went ≡ false) × (new ≡ old))
+    ⊎ ((0 < length (owed old.connection)) × (¬ (IsHeld times now old)) × (outcome : WriteOutcome)
     × Writes outcome old.connection new.connection (end_of contents old.stream new.stream)
     × TimesWritten outcome now old new × (went ≡ has_gone outcome))
 

@@ -2,6 +2,7 @@
 //! stands apart from `server` so that it is proved beside `server_pace`.
 #![tactic(auto)]
 
+mod hold;
 mod linger;
 mod parting;
 mod partings;
@@ -12,6 +13,7 @@ mod served;
 mod serving_node;
 mod stay;
 
+pub use hold::Hold;
 pub use linger::Linger;
 pub use partings::Partings;
 pub use requests::serve_requests;

@@ -1,13 +1,14 @@
 //! A client's connection, with what carries its bytes.
 
-ghost use Rattle.std.specs.Prelude.{◌≡◌, ◌↔◌, ℕ, IfOk, MatchOption, OnErr, OnOk, IsTrue};
+ghost use Rattle.std.specs.Prelude.{◌≡◌, ◌↔◌, ◌<◌, ◌≤◌, ℕ, IfOk, MatchOption, OnErr, OnOk, IsTrue};
 ghost use Rattle.http_read.specs.Counted.{inside};
-ghost use Rattle.http_serve.specs.Services.{MaySubmit};
-ghost use Rattle.server_clients.specs.Answering.{CountsAnswered, IsLeft, IsTurn};
-ghost use Rattle.server_clients.specs.Moving.{IsReadOnce, IsWrittenOnce, MayBeRead};
+ghost use Rattle.http_serve.specs.Services.{MaySubmit, MaySubmitMany};
+ghost use Rattle.server_clients.specs.Answering.{CountsAnswered, IsLeft, IsTurn, MayBeOneMore};
+ghost use Rattle.server_clients.specs.Moving.{IsHeld, IsReadOnce, IsWrittenOnce, MayBeRead};
 ghost use Rattle.server_clients.specs.Seating.{IsFresh, IsLeaving, IsSlow, MayGo, stay_of};
 ghost use Rattle.server_clients.specs.Served.{offered};
 
+use crate::hold::Hold;
 use crate::served::Served;
 use crate::stay::Stay;
 use http_read::Counted;
@@ -100,7 +101,27 @@ impl<S> Seat<S> {
         }
     }
 
-    /// Takes its turn: at most one request is answered, and none that is left.
+    /// Answers the next request, if it is there whole and is not left. Returns whether it did.
+    fn answer_next<D: Disk>(
+        &mut self,
+        alloc: Global,
+        served: &mut Served<D>,
+        spans: &mut Vec<HeaderSpan>,
+        times: Times,
+        now: u64,
+    ) -> Result<bool, AllocError>
+        ensures next { IfOk result (λ did. MayBeOneMore offered times now did served.old served.new self.old self.new) }
+        ensures few { OnErr result (self.old.connection.answered < 100) }
+        ensures taken { MaySubmit offered served.old served.new }
+    {
+        if self.is_left(served, times, now) {
+            return Ok(false);
+        }
+        self.connection.advance(alloc, served, spans)
+    }
+
+    /// Takes its turn: its requests are answered, until one is left, or no whole one is there, or 16 KB wait to
+    /// be written. Returns whether one was answered.
     pub(crate) fn answer<D: Disk>(
         &mut self,
         alloc: Global,
@@ -111,12 +132,24 @@ impl<S> Seat<S> {
     ) -> Result<bool, AllocError>
         ensures turn { OnOk result (IsTurn offered times now served.old served.new self.old self.new) }
         ensures counts { IfOk result (λ did. CountsAnswered did self.old self.new) }
-        ensures taken { MaySubmit offered served.old served.new }
+        ensures taken { (n : ℕ) × (n ≤ 100) × MaySubmitMany offered n served.old served.new }
     {
-        if self.is_left(served, times, now) {
-            return Ok(false);
+        let mut count: u32 = 0;
+        while self.answer_next(alloc, served, spans, times, now)? {
+            count += 1;
         }
-        self.connection.advance(alloc, served, spans)
+        Ok(count > 0)
+    }
+
+    /// Whether what it owes is held back, so that it goes out together with a receipt.
+    fn is_held(&self, times: Times, now: u64) -> bool
+        ensures { IsTrue result ↔ IsHeld times now self.now }
+    {
+        let hold = Hold {
+            asked: self.connection.has_asked(),
+            since: now.saturating_sub(self.came),
+        };
+        hold.is_on(times)
     }
 
     /// The stream, which is to be closed.
@@ -160,11 +193,11 @@ impl<S: Read> Seat<S> {
 }
 
 impl<S: Write> Seat<S> {
-    /// Writes once, if something waits. Returns whether anything went.
-    pub(crate) fn write(&mut self, now: u64) -> bool
-        ensures { IsWrittenOnce S.contents now result self.old self.new }
+    /// Writes once, if something waits and is not held back. Returns whether anything went.
+    pub(crate) fn write(&mut self, times: Times, now: u64) -> bool
+        ensures { IsWrittenOnce S.contents times now result self.old self.new }
     {
-        if !self.connection.owes() {
+        if !self.connection.owes() || self.is_held(times, now) {
             return false;
         }
         match self.connection.write_to(&mut self.stream) {

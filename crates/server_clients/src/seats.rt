@@ -136,8 +136,8 @@ impl<S: Drop> Seats<S> {
         None
     }
 
-    /// Answers one request of each client that sent a whole one and read the response before it, except a
-    /// request that is left. Returns whether there was one.
+    /// Answers the requests of each client that are there whole, one after another, until one is left, or
+    /// 16 KB wait to be written. Returns whether there was one.
     pub fn answer_each<D: Disk>(
         &mut self,
         served: &mut Served<D>,
@@ -146,7 +146,7 @@ impl<S: Drop> Seats<S> {
         ensures same { (self.new.times ≡ self.old.times) × (self.new.alloc ≡ self.old.alloc) }
         ensures each { OnOk result (AreAnswered offered self.old.times now served.old served.new self.old.seats.items self.new.seats.items) }
         ensures tells { IfOk result (λ answered. TellsAnswered answered (length self.old.seats.items) self.old.seats.items self.new.seats.items) }
-        ensures taken { (n : ℕ) × (n ≤ 64) × MaySubmitMany offered n served.old served.new }
+        ensures taken { (n : ℕ) × (n ≤ 6400) × MaySubmitMany offered n served.old served.new }
     {
         let times = self.times;
         let mut answered = false;
@@ -182,17 +182,18 @@ impl<S: Read + Drop> Seats<S> {
 }
 
 impl<S: Write + Drop> Seats<S> {
-    /// Writes once to each client that is owed something. Returns whether anything went.
+    /// Writes once to each client that is owed something that is not held back. Returns whether anything went.
     pub fn write_each(&mut self, now: u64) -> bool
-        ensures written { AreDone (IsWrittenOnce S.contents now)
+        ensures written { AreDone (IsWrittenOnce S.contents self.old.times now)
             (length self.old.seats.items) result self.old.seats.items self.new.seats.items }
         ensures same { (self.new.times ≡ self.old.times) × (self.new.alloc ≡ self.old.alloc) }
     {
+        let times = self.times;
         let mut went = false;
         let mut i = 0;
         while i < self.seats.len() {
             let to = &mut self.seats[i];
-            went |= to.write(now);
+            went |= to.write(times, now);
             i += 1;
         }
         went

@@ -8,7 +8,7 @@ use Rattle.server_clients.proofs.seats.Seats.write_each.Goals as goal
 pub loop-i-init : goal.loop-i-init
 loop-i-init g c = record {
   within = omega arith;
-  done = none_done (IsWrittenOnce g.S.Write.contents c.args.now) c.args.self.now.seats.items;
+  done = none_done (IsWrittenOnce g.S.Write.contents c.args.self.now.times c.args.now) c.args.self.now.seats.items;
   same = (refl, refl);
 }
 
@@ -23,7 +23,7 @@ loop-i-preserved g c =
     ∙ get_or_default now c.loop-i.i d x below ∙ sym c.index_mut-to.ensures.value in
     record {
       within = omega (arith, below);
-      done = one_done (IsWrittenOnce g.S.Write.contents c.args.now) c.loop-i.i c.loop-i.went c.write-went.result
+      done = one_done (IsWrittenOnce g.S.Write.contents c.args.self.now.times c.args.now) c.loop-i.i c.loop-i.went c.write-went.result
           old now x c.write-went.new.self below at c.loop-i.invariant.done c.write-went.ensures;
       same = c.loop-i.invariant.same;
     }
