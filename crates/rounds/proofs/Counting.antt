@@ -30,7 +30,8 @@ use Rattle.rounds.proofs.Delivering.{Keeps, AreAllowed, brought}
 use Rattle.rounds.proofs.Calling.{all_called}
 use Rattle.rounds.proofs.Promising.{all_or}
 
-in_filtered : {X : Type 0} (f : X → Bool) (xs : List X) (x : X) → In xs x → f x ≡ true → In (filter f xs) x
+pub in_filtered : {X : Type 0} (f : X → Bool) (xs : List X) (x : X) → In xs x → f x ≡ true
+    → In (filter f xs) x
 in_filtered f [] x k holds = absurd k
 in_filtered f (y ∷ xs) x k holds = by (f y) refl (λ later. in_filtered f xs x later holds) k
   where
@@ -43,7 +44,7 @@ in_filtered f (y ∷ xs) x k holds = by (f y) refl (λ later. in_filtered f xs x
     by false is rest h = ⊎_elim (λ (e : y ≡ x). absurd (clash (sym is ∙ ap f e ∙ holds)))
         (λ later. rest later) h
 
-out_of_filter : {X : Type 0} (f : X → Bool) (xs : List X) (x : X) → In (filter f xs) x → In xs x
+pub out_of_filter : {X : Type 0} (f : X → Bool) (xs : List X) (x : X) → In (filter f xs) x → In xs x
 out_of_filter f [] x k = absurd k
 out_of_filter f (y ∷ xs) x k = by (f y) (λ later. out_of_filter f xs x later) k
   where
@@ -52,7 +53,7 @@ out_of_filter f (y ∷ xs) x k = by (f y) (λ later. out_of_filter f xs x later)
     by true rest h = ⊎_elim (λ e. inl e) (λ later. inr (rest later)) h
     by false rest h = inr (rest h)
 
-not_equal : (a b : ℕ) → a ≢ b → not (nat_eq a b) ≡ true
+pub not_equal : (a b : ℕ) → a ≢ b → not (nat_eq a b) ≡ true
 not_equal a b apart = grind (arith, nat_tests, apart)
 
 no_value : (v : Value) → ◌≡◌ {A = Option Value} None (Some v) → ⊥

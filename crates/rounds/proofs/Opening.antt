@@ -159,7 +159,7 @@ module _ (n p d : ℕ) (values rest : List Value) (v : Value) (node : IsNode n p
           (λ bytes m k spells. calm.settled p bytes m node k spells) w.takes still in
           let paced = fresh_ticks n (g p).pace (g p).node (h p).now st.drained st.last st.called st.calls
           values (prefix_of values IsNoBallot IsNoVote (g p).node still.clean) wants
-          (calm.nodes p node).unpromised calm.fresh.none_wanted calm.fresh.still calm.fresh.none_tried
+          (calm.nodes p node).unpromised calm.fresh.none_wanted calm.fresh.still calm.fresh.turn
           (calm.paces p node).noted in
           let after = begun n p values v rest w.mid taken.0 instance (h p).node w.then
           (subst (λ l. EndsTurns l n p w.mid w.then (h p).node) paced.0 w.ends) in

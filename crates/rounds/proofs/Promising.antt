@@ -31,7 +31,7 @@ use Rattle.rounds.proofs.Answering.{IsAnswer}
 use Rattle.rounds.proofs.Acting.{IsNoVote, IsThis}
 
 -- in a list or not
-in_or_not : (xs : List ℕ) (x : ℕ) → In xs x ⊎ (¬ In xs x)
+pub in_or_not : (xs : List ℕ) (x : ℕ) → In xs x ⊎ (¬ In xs x)
 in_or_not [] x = inr (λ k. k)
 in_or_not (y ∷ xs) x =
     ⊎_elim
@@ -54,7 +54,7 @@ all_or A B (p ∷ ps) each =
     (λ (other : B). inr other)
     (each p (inl refl))
 
-senders_push : (answers : List Answer) (x : Answer) → senders (answers ++ x ∷ []) ≡ senders answers ++
+pub senders_push : (answers : List Answer) (x : Answer) → senders (answers ++ x ∷ []) ≡ senders answers ++
     x.sender ∷ []
 senders_push [] x = refl
 senders_push (y ∷ answers) x = ap (λ l. y.sender ∷ l) (senders_push answers x)
@@ -68,7 +68,7 @@ own_chosen own answers v none how =
     ⊎_elim (λ x. x.1) (λ (x : Highest answers v). absurd (no_vote (record { ballot = x.1; value = v })
     (sym (none x.0 x.2) ∙ x.3))) how
 
-inside_attempt : (a c : Attempt) → Some a ≡ Some c → a ≡ c
+pub inside_attempt : (a c : Attempt) → Some a ≡ Some c → a ≡ c
 inside_attempt a c e = cc
 
 module _ (n p : ℕ) (values : List Value) (b : BallotOf) (v : Value) where

@@ -1,5 +1,5 @@
 -- A group that begins is calm.
-use Rattle.std.proofs.Common.{◌≡◌, ◌≢◌, ℕ, true, false, cond, Some, [], refl, ap, arith}
+use Rattle.std.proofs.Common.{◌≡◌, ◌≢◌, ℕ, true, false, cond, Option, None, Some, [], refl, ap, arith}
 use Rattle.std.specs.Prelude.{nat_eq, slice_get}
 use Rattle.std.proofs.lemmas.Bool.Decides.{nat_tests}
 use Rattle.node.specs.Nodes.{Value}
@@ -10,6 +10,9 @@ same_itself a = grind (arith, nat_tests)
 
 not_same : (a b : ℕ) → a ≢ b → nat_eq a b ≡ false
 not_same a b apart = grind (arith, nat_tests)
+
+none_last : (q : ℕ) → ◌≡◌ {A = Option ℕ} None (Some q) → ⊥
+none_last q e = cc
 
 nothing_at : (k : ℕ) (v : Value) → slice_get [] k ≡ Some v → ⊥
 nothing_at k v e = cc
@@ -27,7 +30,7 @@ start_is_calm n p times pending node = record {
     not_mute = λ mute. omega (arith, mute);
   };
   paces = λ q here. record { noted = refl; resumes = refl };
-  fresh = record { none_wanted = refl; still = refl; none_tried = refl };
+  fresh = record { none_wanted = refl; still = refl; turn = λ b. absurd (none_last b.last b.is_last) };
   pending_at = ap (λ t. cond t pending []) (same_itself p);
   pending_else = λ q here apart. ap (λ t. cond t pending []) (not_same q p apart);
   settled = λ q bytes m here k spells. absurd k;

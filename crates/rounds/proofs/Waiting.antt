@@ -2,11 +2,10 @@
 -- patience, does not tick.
 use Rattle.std.proofs.Common.{◌≡◌, ◌≢◌, ◌⊎◌, ⊎_elim, ℕ, zero, suc, ◌+◌, ◌<◌, ◌≤◌, Bool, true, false, cond}
 use Rattle.std.proofs.Common.{Option, Some, None, List, [], ◌∷◌, length, refl, sym, ap, subst, ◌∙◌, arith}
-use Rattle.std.specs.Prelude.{◌-◌, ◌*◌, ◌^◌, ◌||◌, ◌&&◌, not, nat_eq, nat_lt, min, max, get_or, replicate}
+use Rattle.std.specs.Prelude.{◌-◌, ◌*◌, ◌^◌, ◌||◌, ◌&&◌, not, nat_eq, nat_lt, min, max}
 use Rattle.std.specs.Prelude.{unwrap_or, ⊤}
 use Rattle.std.proofs.lemmas.Bool.Decides.{nat_tests}
 use Rattle.site_ids.specs.Lists.{In}
-use Rattle.site_ids.specs.NodeSets.{no_nodes}
 use Rattle.wire.specs.declared.message.Message.{Message}
 use Rattle.wire.specs.Decoding.{Spells}
 use Rattle.wire.proofs.ReadingLemmas.{one_message}
@@ -24,7 +23,7 @@ use Rattle.server_pace.specs.declared.ticking.Ticking.{Ticking}
 use Rattle.server_pace.specs.declared.yielding.Yielding.{Yielding}
 use Rattle.server_pace.specs.declared.questions.Questions.{Questions}
 use Rattle.server_pace.specs.Pacing.{noted, leaves, is_one_more, noted_tries, Ticks, waited, begun, Waits}
-use Rattle.server_pace.specs.Pacing.{IsTriedBy, ticked, ticking_after, IsTelling, CallsDue, HearsBatch}
+use Rattle.server_pace.specs.Pacing.{IsBehind, IsTriedBy, ticked, ticking_after, IsTelling, CallsDue, HearsBatch}
 use Rattle.server_pace.specs.Turns.{call_behind, keeping_or, telling_or}
 use Rattle.server_times.specs.declared.times.Times.{Times}
 use Rattle.rounds.proofs.Besides.{some_at}
@@ -34,13 +33,13 @@ by_not : (b : Bool) → (b ≡ true → ⊥) → b ≡ false
 by_not false never = refl
 by_not true never = absurd (never refl)
 
-not_true : false ≡ true → ⊥
+pub not_true : false ≡ true → ⊥
 not_true e = cc
 
 same_number : (a b : ℕ) → a ≡ b → nat_eq a b ≡ true
 same_number a b e = grind (arith, nat_tests)
 
-inside : (a b : ℕ) → Some a ≡ Some b → a ≡ b
+pub inside : (a b : ℕ) → Some a ≡ Some b → a ≡ b
 inside a b e = cc
 
 no_number : (q : ℕ) → ◌≡◌ {A = Option ℕ} None (Some q) → ⊥
@@ -102,7 +101,7 @@ pub record IsWaiting (k from : ℕ) (t : Ticking) : Type 0 where
   pub resumes : t.resumes ≡ false
   pub since : (a : ℕ) → t.since ≡ Some a → from ≤ a
 
-since_late : (from now : ℕ) (wanted left : Bool) (before : Option ℕ) (a : ℕ) → from ≤ now
+pub since_late : (from now : ℕ) (wanted left : Bool) (before : Option ℕ) (a : ℕ) → from ≤ now
     → ((x : ℕ) → before ≡ Some x → from ≤ x) → cond (not wanted) None
     (cond left (Some now) (Some (unwrap_or before now))) ≡ Some a → from ≤ a
 since_late from now false left before a low old e = absurd (no_number a e)
@@ -112,7 +111,7 @@ since_late from now true false (Some y) a low old e = let x = inside y a e in le
     (arith, x, z)
 
 -- what is noted where no more is known
-abbrev still_noted : Ticking → Times → ℕ → Seen → Bool → Ticking
+abbrev pub still_noted : Ticking → Times → ℕ → Seen → Bool → Ticking
 still_noted t times now seen stirred = record t {
   since = cond (not seen.wanted) None (cond (leaves t times now seen stirred) (Some now)
       (Some (unwrap_or t.since now)));
@@ -120,7 +119,7 @@ still_noted t times now seen stirred = record t {
 }
 
 -- and where more is
-abbrev newly_noted : Ticking → ℕ → Seen → Ticking
+abbrev pub newly_noted : Ticking → ℕ → Seen → Ticking
 newly_noted t now seen = record {
   since = cond seen.wanted (Some now) None;
   first = cond seen.wanted (Some now) None;
@@ -156,11 +155,11 @@ noted_unwanted t times now seen stirred none = by (nat_eq seen.known t.known)
         (Some (unwrap_or t.since now)))) none
     by false = ap (λ w. cond w (Some now) None) none
 
-once : (p k : ℕ) → 1 ≤ k → p ≤ p * k
+pub once : (p k : ℕ) → 1 ≤ k → p ≤ p * k
 once p zero h = omega (arith, h)
 once p (suc k) h = grind arith
 
-some_waited : (t : Ticking) (times : Times) (stake : Bool) → 1 ≤ waited t times stake
+pub some_waited : (t : Ticking) (times : Times) (stake : Bool) → 1 ≤ waited t times stake
 some_waited t times stake = by (min (t.ticks + 1) times.growth) (max t.longer (cond stake 0 times.longer))
   where
     by : (a b : ℕ) → 1 ≤ max a (b + 1)
@@ -201,18 +200,19 @@ nobody : (s : Node) (i : ℕ) (tries : Option ℕ) → IsPromise s.entries i Non
 nobody s i None free tried = refl
 nobody s i (Some q) free tried = absurd (free tried.1.1.0.0 tried.1.0 tried.1.1.0.1 tried.1.1.0.2)
 
-none_in : (m k : ℕ) → get_or (replicate m false) k false ≡ false
-none_in zero k = refl
-none_in (suc m) zero = refl
-none_in (suc m) (suc k) = none_in m k
-
--- where none tried and none tries, it waits for nobody
-waits_for_none : (y : Yielding) (now me : ℕ) → y.tried ≡ no_nodes → Waits (noted_tries y now None) me → ⊥
-waits_for_none y now me none waits =
+-- if none tries, and no other server's turn is before its own, it waits for nobody
+waits_for_none : (y : Yielding) (now me : ℕ) → ¬ IsBehind y me → Waits (noted_tries y now None) me → ⊥
+waits_for_none y now me turn waits =
     ⊎_elim
     (λ x. absurd (no_number x.0 x.1))
-    (λ b. absurd (not_true (sym (ap (λ l. get_or l (b.node - 1) false) none ∙ none_in 9 (b.node - 1))
-    ∙ b.tried)))
+    (λ b. turn (record {
+      last = b.last;
+      node = b.node;
+      is_last = b.is_last;
+      range = b.range;
+      tried = b.tried;
+      before = b.before;
+    }))
     waits
 
 ticking_kept : (times : Times) (t : Ticking) (now : ℕ) (due : Due) (last : LastCall) → IsNoTick last
@@ -263,7 +263,8 @@ module _ (n : ℕ) (old : Pace) (s : Node) (now : ℕ) (drained : Bool) (last : 
       subst IsNoTick (sym calls.is_called) (idle_kept d.fresh (d.tick || d.goes_on) d.question d.yields
       d.block d.telling fresh (neither d.tick d.goes_on tick goes_on))
 
-  ticking_is : mid.ticking ≡ ticking_after old.times (noted old.ticking old.times now calls.seen old.stirred)
+  pub ticking_is : mid.ticking ≡ ticking_after old.times (noted old.ticking old.times now calls.seen
+      old.stirred)
       now calls.due last
   ticking_is = ap (λ (x : Pace). x.ticking) calls.after
 
@@ -330,13 +331,13 @@ module _ (n : ℕ) (old : Pace) (s : Node) (now : ℕ) (drained : Bool) (last : 
     -- a value that is wanted, while none was, is tried at once
     module _ (wants : WantsTick s) (untried : IsPromise s.entries (suc (length values)) None)
         (since : old.ticking.since ≡ None) (still : old.stirred ≡ false)
-        (none : old.yielding.tried ≡ no_nodes) (kept : old.ticking.known ≡ length values) where
+        (turn : ¬ IsBehind old.yielding old.me) (kept : old.ticking.known ≡ length values) where
       yields_to_none : calls.due.yields ≡ false
       yields_to_none = by_not calls.due.yields (λ e.
           let is = calls.is_due.yields.0 e in
           let here = nobody s (suc calls.seen.known) calls.tries
           (subst (λ k. IsPromise s.entries (suc k) None) (sym so_many) untried) calls.is_tried in
-          waits_for_none old.yielding now old.me none (subst
+          waits_for_none old.yielding now old.me turn (subst
           (λ t. Waits (noted_tries old.yielding now t) old.me) here is.0))
 
       is_fresh : calls.due.fresh ≡ true

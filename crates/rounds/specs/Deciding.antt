@@ -3,14 +3,13 @@ use Rattle.std.specs.Prelude.{◌≡◌, ◌≢◌, ◌⊎◌, ℕ, suc, ◌*◌
 use Rattle.std.specs.Prelude.{List, [], ◌∷◌, length}
 use Rattle.site_ids.specs.Ids.{IsInstance, IsNode}
 use Rattle.site_ids.specs.Lists.{In}
-use Rattle.site_ids.specs.NodeSets.{no_nodes}
 use Rattle.wire.specs.declared.message.Message.{Message}
 use Rattle.wire.specs.Decoding.{Spells}
 use Rattle.wire.specs.Messages.{kind_of, instance_of}
 use Rattle.durable.specs.Entries.{IsPromise, learned_at}
 use Rattle.node.specs.Nodes.{Value, Up, Node, IsMute, IsKnownPrefix, opened}
 use Rattle.server_pace.specs.declared.pace.Pace.{Pace}
-use Rattle.server_pace.specs.Pacing.{first_pace}
+use Rattle.server_pace.specs.Pacing.{first_pace, IsBehind}
 use Rattle.server_times.specs.declared.times.Times.{Times}
 use Rattle.rounds.specs.Rounds.{Group, AreRounds}
 
@@ -30,12 +29,12 @@ pub record IsCalmPace (known : ℕ) (pace : Pace) : Type 0 where
   pub noted : pace.ticking.known ≡ known
   pub resumes : pace.ticking.resumes ≡ false
 
--- a value was just submitted: none was wanted, the last batch stirred nothing, and no other server's turn is
--- before this one's
+-- a value was just submitted: none was wanted, the last batch stirred nothing, and no server that tried has
+-- its turn before this one
 pub record IsFreshPace (pace : Pace) : Type 0 where
   pub none_wanted : pace.ticking.since ≡ None
   pub still : pace.stirred ≡ false
-  pub none_tried : pace.yielding.tried ≡ no_nodes
+  pub turn : ¬ IsBehind pace.yielding pace.me
 
 -- a question, or a message about an instance before this one, but no prepare
 abbrev pub IsSettled : ℕ → Message → Type 0

@@ -1,8 +1,14 @@
 //! That rounds decide.
+ghost use Rattle.rounds.specs.Agreeing.{RoundsAnswerAlike, RoundsAreRuns, RoundsKnowSame};
+ghost use Rattle.rounds.specs.Agreeing.{RoundsKnowSubmitted, SchedulesSayMessages, StartIsLedTo};
 ghost use Rattle.rounds.specs.Coding.{CodeRoundsDecide, StepsAreSteps};
 ghost use Rattle.rounds.specs.Deciding.{CalmRoundsDecide, RoundsKeep, StartIsCalm};
+ghost use Rattle.rounds.specs.Proposing.{AttemptDecides, HighestDecides, ProposalDecides};
+ghost use Rattle.rounds.specs.Proposing.{RequestsAreHeeded};
+ghost use Rattle.rounds.specs.Ticking.{NewIsBegun, TicksAreApart};
 
-use site_disk::Disk;
+use site_disk::{Disk, MemDisk};
+use world::batches_are_runs;
 
 /// Five rounds of a calm group decide. In a calm group all servers know the same values and attempt nothing,
 /// and values were just submitted at one of them. If two rounds take less than each patience, every server
@@ -20,3 +26,33 @@ pub fn rounds_of_code_decide<D: Disk>()
     ensures step { StepsAreSteps D.stands_for }
     ensures decides { CodeRoundsDecide D.stands_for }
 {}
+
+/// Rounds are events of a world. So rounds of a group that a schedule led to go on with that schedule, and
+/// what holds of every schedule holds of them: two servers know the same, which was submitted, and answer
+/// alike.
+pub fn rounds_agree()
+    ensures runs { RoundsAreRuns }
+    ensures messages { SchedulesSayMessages }
+    ensures same { RoundsKnowSame }
+    ensures alike { RoundsAnswerAlike }
+    ensures submitted { RoundsKnowSubmitted }
+    ensures start { StartIsLedTo }
+{
+    batches_are_runs::<MemDisk>();
+}
+
+/// The highest ballot that is asked for, and that no record exceeds, decides in four rounds, if nobody
+/// overbids it in the first two, whatever else the servers do. So does an attempt. A proposal that waits for
+/// all servers decides in two. A request is heeded, or a higher ballot was. A ballot above all that are on
+/// record comes of a tick, or of widenings of a server that had no attempt. Ticks that are due are a patience
+/// apart, so there are few.
+pub fn attempts_decide()
+    ensures highest { HighestDecides }
+    ensures attempt { AttemptDecides }
+    ensures proposal { ProposalDecides }
+    ensures heeded { RequestsAreHeeded }
+    ensures begun { NewIsBegun }
+    ensures apart { TicksAreApart }
+{
+    batches_are_runs::<MemDisk>();
+}

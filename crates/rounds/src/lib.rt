@@ -4,4 +4,4 @@
 
 mod laws;
 
-pub use laws::{calm_rounds_decide, rounds_of_code_decide};
+pub use laws::{attempts_decide, calm_rounds_decide, rounds_agree, rounds_of_code_decide};
