@@ -18,6 +18,9 @@ pub(crate) enum Role<'a> {
     Wrong(&'static str),
 }
 
+/// Why a file with a line break in its name is no part of a site.
+const BROKEN: &str = "has a line break in its name: rename the file";
+
 /// Whether a name in a path says that a file is none of the site's.
 fn is_hidden(name: &str) -> bool {
     name.starts_with('.') || name.ends_with('~')
@@ -31,6 +34,8 @@ pub fn is_passed_over(path: &str) -> bool {
 
 fn text_role<'a>(kind: Kind, rest: &'a str, ending: &str, wrong: &'static str) -> Role<'a> {
     match rest.strip_suffix(ending) {
+        // a line break would end the command's line, and the rest of the name would be text
+        Some(name) if name.contains('\n') => Role::Wrong(BROKEN),
         Some(name) if !name.is_empty() => Role::Text(kind, name),
         _ => Role::Wrong(wrong),
     }

@@ -1,4 +1,6 @@
 //! Questions to a node over one connection.
+ghost use Rattle.std.specs.Prelude.{◌≡◌, ◌≤◌, [], length, vec_len, IfOk, IsOk, IsSome};
+
 use crate::address::Address;
 use editor_http::{Authority, NodeAnswer, NodeAnswerFault, Question, read_answer};
 use engine_common::Feed;
@@ -103,16 +105,21 @@ fn next_answer(
     }
 }
 
-/// Reads the answers to so many questions: as many as come.
+/// Reads answers until there are so many, or no more come.
 pub(crate) fn read_answers(
     alloc: Global,
     stream: &TcpStream,
-    count: usize,
+    most: usize,
     answers: &mut Vec<NodeAnswer>,
-) -> Result<(), AllocError> {
+) -> Result<(), AllocError>
+    ensures few { vec_len answers.old ≤ most → vec_len answers.new ≤ most }
+{
     let mut reader = Counted::new(stream);
     let mut feed = Feed::new(alloc);
-    for _ in 0..count {
+    for _ in 0..most {
+        if answers.len() >= most {
+            break;
+        }
         match next_answer(alloc, &mut reader, &mut feed)? {
             Some(answer) => answers.push(answer)?,
             None => break,
@@ -121,37 +128,44 @@ pub(crate) fn read_answers(
     Ok(())
 }
 
-/// Asks over a connection. What was written is answered also where the rest could not be written.
+/// Asks over a connection, until there are so many answers in all. What was written is answered also if the
+/// rest could not be written.
 fn converse(
     alloc: Global,
     stream: &TcpStream,
     to: &Authority,
     questions: &[Question<'_>],
+    most: usize,
     answers: &mut Vec<NodeAnswer>,
-) -> Result<(), AllocError> {
+) -> Result<(), AllocError>
+    ensures few { vec_len answers.old ≤ most → vec_len answers.new ≤ most }
+{
     write_questions(alloc, stream, to, questions)?;
-    read_answers(alloc, stream, questions.len(), answers)
+    read_answers(alloc, stream, most, answers)
 }
 
-/// Asks a node all at once over a connection, and reads its answers, which come in the same order: as many as
-/// come before the connection fails or ends, or one is waited for longer than so many milliseconds. Then the
-/// connection is closed, since it holds one of the node's 64 seats.
+/// Asks a node all at once over a connection, and reads its answers, which come in the same order: until there
+/// are so many in all, the connection fails or ends, or one is waited for longer than so many milliseconds.
+/// Then the connection is closed, since it holds one of the node's 64 seats.
 fn ask_once<N: Net<Stream = TcpStream>>(
     net: &N,
     alloc: Global,
     to: &Authority,
     questions: &[Question<'_>],
+    most: usize,
     millis: u64,
     answers: &mut Vec<NodeAnswer>,
-) -> Result<(), AllocError> {
+) -> Result<(), AllocError>
+    ensures few { vec_len answers.old ≤ most → vec_len answers.new ≤ most }
+{
     match connect_waiting(net, to.host.as_str(), millis) {
-        Ok(stream) => converse(alloc, &stream, to, questions, answers),
+        Ok(stream) => converse(alloc, &stream, to, questions, most, answers),
         Err(fault) if fault.kind() == io::ErrorKind::OutOfMemory => Err(AllocError),
         Err(_) => Ok(()),
     }
 }
 
-/// Asks a node, and adds its answers.
+/// Asks a node, and adds its answers: until there are as many as questions, or it falls silent.
 fn ask_all<N: Net<Stream = TcpStream>>(
     net: &N,
     alloc: Global,
@@ -159,11 +173,13 @@ fn ask_all<N: Net<Stream = TcpStream>>(
     questions: &[Question<'_>],
     millis: u64,
     answers: &mut Vec<NodeAnswer>,
-) -> Result<(), AllocError> {
+) -> Result<(), AllocError>
+    ensures few { vec_len answers.old ≡ 0 → vec_len answers.new ≤ length questions.now }
+{
     let mut asked: usize = 0;
     for some in questions.chunks(QUESTIONS) {
-        ask_once(net, alloc, to, some, millis, answers)?;
-        asked = some.len().saturating_add(asked);
+        asked = some.len().saturating_add(asked).min(questions.len());
+        ask_once(net, alloc, to, some, asked, millis, answers)?;
         if answers.len() < asked {
             break;
         }
@@ -171,40 +187,51 @@ fn ask_all<N: Net<Stream = TcpStream>>(
     Ok(())
 }
 
-/// The answers of a node to questions, in their order: fewer than these where it is silent for so many
-/// milliseconds.
+/// The answers of a node to questions, in their order: fewer than these if it is silent for so many
+/// milliseconds. If nothing is asked nothing fails.
 pub(crate) fn ask_within<N: Net<Stream = TcpStream>>(
     net: &N,
     alloc: Global,
     node: &Address,
     questions: &[Question<'_>],
     millis: u64,
-) -> Result<Vec<NodeAnswer>, AllocError> {
+) -> Result<Vec<NodeAnswer>, AllocError>
+    ensures few { IfOk result (λ answers. vec_len answers ≤ length questions.now) }
+    ensures nothing { questions.now ≡ [] → IsOk result }
+{
     let mut answers = Vec::new(alloc);
-    ask_all(net, alloc, &node.authority, questions, millis, &mut answers)?;
+    if !questions.is_empty() {
+        ask_all(net, alloc, &node.authority, questions, millis, &mut answers)?;
+    }
     Ok(answers)
 }
 
 /// The answers of a node to questions, in their order: fewer than these if it falls silent. No clause can say
-/// what a node answers.
+/// what a node answers. If nothing is asked nothing fails.
 pub fn ask<N: Net<Stream = TcpStream>>(
     net: &N,
     alloc: Global,
     node: &Address,
     questions: &[Question<'_>],
-) -> Result<Vec<NodeAnswer>, AllocError> {
+) -> Result<Vec<NodeAnswer>, AllocError>
+    ensures few { IfOk result (λ answers. vec_len answers ≤ length questions.now) }
+    ensures nothing { questions.now ≡ [] → IsOk result }
+{
     ask_within(net, alloc, node, questions, WAITING)
 }
 
 /// The number that a node answers.
-pub(crate) fn number_in(answer: &NodeAnswer) -> Option<u64> {
+pub(crate) fn number_in(answer: &NodeAnswer) -> Option<u64>
+    ensures { IsSome result → answer.now.status ≡ 200 }
+{
     if answer.status != 200 {
         return None;
     }
     str::from_utf8(&answer.body).ok()?.trim_end().parse().ok()
 }
 
-/// The number of a node's newest release; nothing if the node does not say.
+/// The number of a node's newest release; nothing if the node does not say. A node may say any number, so no
+/// clause can tell a right one from a wrong one.
 pub fn newest<N: Net<Stream = TcpStream>>(
     net: &N,
     alloc: Global,

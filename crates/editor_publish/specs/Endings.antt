@@ -13,9 +13,9 @@ status_of Well = 0
 status_of Bad = 1
 status_of WouldSend = 3
 
--- a release shows a folder, but for so many paths
-abbrev pub shown_but_for : ℕ → Shown
-shown_but_for paths = if paths == 0 then Whole else NotWhole
+-- whether a release shows a folder, by the number of paths that it does not show as the folder has them
+abbrev pub shown_of : ℕ → Shown
+shown_of unshown = if unshown == 0 then Whole else NotWhole
 
 abbrev pub ending_of : Shown → Ending
 ending_of Whole = Well

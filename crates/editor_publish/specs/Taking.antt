@@ -15,6 +15,12 @@ shows_some answer (Some view) = shows answer view
 abbrev pub is_own : NodeAnswer → ℕ → List (Vec View Global) → Bool
 is_own answer place states = list_any (λ views. shows_some answer (slice_get views.items place)) states
 
+-- some state has it so, and the first one, which is that of the folder's last release, has not
+abbrev pub is_fresh : NodeAnswer → ℕ → List (Vec View Global) → Bool
+is_fresh answer place [] = false
+is_fresh answer place (released ∷ since) =
+    is_own answer place (released ∷ since) && not (shows_some answer (slice_get released.items place))
+
 abbrev pub takes : NodeAnswer → ℕ → List (Vec View Global) → Bool
 takes answer place states = unwrap_or (is_taken answer.status (is_own answer place states)) false
 
@@ -35,3 +41,12 @@ others_of states place (path ∷ paths) (answer ∷ answers) =
     if not (is_own answer place states)
     then path ∷ others_of states (place + 1) paths answers
     else others_of states (place + 1) paths answers
+
+-- those that show what the folder has put since its last release
+abbrev pub fresh_of : List (Vec View Global) → ℕ → List (List ℕ) → List NodeAnswer → List (List ℕ)
+fresh_of states place [] answers = []
+fresh_of states place (path ∷ paths) [] = []
+fresh_of states place (path ∷ paths) (answer ∷ answers) =
+    if is_fresh answer place states
+    then path ∷ fresh_of states (place + 1) paths answers
+    else fresh_of states (place + 1) paths answers

@@ -5,13 +5,12 @@
 //! released. The other editor's release may show a part of these commands, as they came into the log one
 //! after another.
 ghost use Rattle.std.specs.Prelude.{◌≡◌, map, slice_get, IfOk, string_bytes};
-ghost use Rattle.editor_publish.specs.Taking.{shows_some, is_own, takes, taken_of, others_of};
+ghost use Rattle.editor_publish.specs.Taking.{shows_some, is_own, is_fresh, takes, taken_of, others_of, fresh_of};
 
 use crate::comparing::shows;
-use crate::renewing::{Course, course_of};
+use crate::own::OwnTexts;
 use editor_common::EditorFault;
-use editor_files::lent;
-use editor_folder::{View, views_of};
+use editor_folder::View;
 use editor_group::{Address, ask};
 use editor_http::{NodeAnswer, Question};
 use editor_plan::is_taken;
@@ -30,25 +29,25 @@ pub(crate) struct Asked {
     pub states: Vec<Vec<String>>,
 }
 
-/// Of the paths that were compared, those that others took over, and those that the group does not show as
-/// the folder's: these, and paths where nothing is any more.
+/// Of the paths that were compared, those that others took over; those that the group does not show as the
+/// folder's: these, and paths where nothing is any more; and those that it shows as the folder's, and not as
+/// at the folder's last release.
 #[derive(Drop)]
 pub(crate) struct Compared {
     pub taken: Vec<String>,
     pub others: Vec<String>,
+    pub fresh: Vec<String>,
 }
 
-/// What is shown at paths by the folder's own texts, of each of its states.
-fn own_views(
-    alloc: Global,
-    states: &[Vec<String>],
-    paths: &[String],
-) -> Result<Vec<Vec<View>>, AllocError> {
-    let mut views = Vec::new(alloc);
-    for texts in states {
-        views.push(views_of(alloc, &lent(alloc, texts)?, paths)?)?;
+impl Compared {
+    /// Of no path.
+    fn none(alloc: Global) -> Compared {
+        Compared {
+            taken: Vec::new(alloc),
+            others: Vec::new(alloc),
+            fresh: Vec::new(alloc),
+        }
     }
-    Ok(views)
 }
 
 /// The answers of a node for paths of a release.
@@ -83,6 +82,19 @@ fn is_own(answer: &NodeAnswer, states: &[Vec<View>], place: usize) -> bool
     states
         .iter()
         .any(|views| shows_at(answer, views.as_slice(), place))
+}
+
+/// Whether a later one of the folder's states than the first shows what was answered at that place, and the
+/// first does not.
+fn is_fresh(answer: &NodeAnswer, states: &[Vec<View>], place: usize) -> bool
+    ensures { result ≡ is_fresh answer.now place states.now }
+{
+    match states.first() {
+        Some(released) => {
+            is_own(answer, states, place) && !shows_at(answer, released.as_slice(), place)
+        }
+        None => false,
+    }
 }
 
 /// A path that no node answered.
@@ -154,21 +166,62 @@ fn others_of(
     Ok(others)
 }
 
-/// Compares paths with a node's release, if the folder's own texts show these views.
-fn compare_views<N: Net<Stream = TcpStream>>(
-    net: &N,
+/// Those of the paths that a node's answers show as what the folder has put since its last release.
+fn fresh_of(
     alloc: Global,
-    node: &Address,
-    release: u64,
-    views: &[Vec<View>],
+    url: &str,
     paths: &[String],
-) -> Result<Compared, EditorFault> {
-    let answers = answers_at(net, alloc, node, release, paths)?;
-    let url = node.url.as_str();
-    Ok(Compared {
-        taken: taken_of(alloc, url, paths, &answers, views)?,
-        others: others_of(alloc, url, paths, &answers, views)?,
-    })
+    answers: &[NodeAnswer],
+    states: &[Vec<View>],
+) -> Result<Vec<String>, EditorFault>
+    ensures { IfOk result (λ fresh. map string_bytes fresh.items
+        ≡ fresh_of states.now 0 (map string_bytes paths.now) answers.now) }
+{
+    let mut fresh = Vec::new(alloc);
+    for (i, path) in paths.iter().enumerate() {
+        let Some(answer) = answers.get(i) else {
+            return Err(unanswered(alloc, url, path.as_str())?);
+        };
+        if is_fresh(answer, states, i) {
+            fresh.push(path.clone()?)?;
+        }
+    }
+    Ok(fresh)
+}
+
+/// Those of the paths that a node's answers show as none of the folder's states has them, but as it has them
+/// while its commands come into the log.
+fn parts_of(
+    alloc: Global,
+    paths: &[String],
+    answers: &[NodeAnswer],
+    views: &[Vec<View>],
+    own: OwnTexts<'_>,
+) -> Result<BTreeSet<String>, AllocError> {
+    let mut parts = BTreeSet::new(alloc);
+    for (i, (path, answer)) in paths.iter().zip(answers).enumerate() {
+        if !is_own(answer, views, i)
+            && is_own(answer, &own.views_between(alloc, path.as_str())?, 0)
+        {
+            let _ = parts.insert(path.clone()?)?;
+        }
+    }
+    Ok(parts)
+}
+
+/// Those of the paths that are not in the set.
+pub(crate) fn apart(
+    alloc: Global,
+    paths: Vec<String>,
+    set: &BTreeSet<String>,
+) -> Result<Vec<String>, AllocError> {
+    let mut others = Vec::new(alloc);
+    for path in paths {
+        if !set.contains(path.as_str()) {
+            others.push(path)?;
+        }
+    }
+    Ok(others)
 }
 
 /// Compares paths with a node's release, if the folder may have these texts.
@@ -177,69 +230,30 @@ pub(crate) fn compare<N: Net<Stream = TcpStream>>(
     alloc: Global,
     node: &Address,
     release: u64,
-    states: &[Vec<String>],
+    own: OwnTexts<'_>,
     paths: &[String],
 ) -> Result<Compared, EditorFault> {
     if release == 0 || paths.is_empty() {
-        return Ok(Compared {
-            taken: Vec::new(alloc),
-            others: Vec::new(alloc),
-        });
+        return Ok(Compared::none(alloc));
     }
-    let views = own_views(alloc, states, paths)?;
-    compare_views(net, alloc, node, release, &views, paths)
+    let views = own.views(alloc, paths)?;
+    let answers = answers_at(net, alloc, node, release, paths)?;
+    let url = node.url.as_str();
+    let parts = parts_of(alloc, paths, &answers, &views, own)?;
+    let taken = taken_of(alloc, url, paths, &answers, &views)?;
+    let others = others_of(alloc, url, paths, &answers, &views)?;
+    let mut fresh = fresh_of(alloc, url, paths, &answers, &views)?;
+    let (taken, others) = (apart(alloc, taken, &parts)?, apart(alloc, others, &parts)?);
+    let mut parts: Vec<String> = parts.into_iter().collect(alloc)?;
+    fresh.append(&mut parts)?;
+    Ok(Compared {
+        taken,
+        others,
+        fresh,
+    })
 }
 
 impl Asked {
-    /// Whether a path is shown so once the first texts of a plan are in the log, some or all of them.
-    fn is_between(
-        &self,
-        alloc: Global,
-        plan: &[&str],
-        path: &str,
-        answer: &NodeAnswer,
-    ) -> Result<bool, AllocError> {
-        let Some(before) = self.states.last() else {
-            return Ok(false);
-        };
-        let mut paths = Vec::new(alloc);
-        paths.push(String::from_str(alloc, path)?)?;
-        let before = lent(alloc, before)?;
-        let Course {
-            before: mut texts,
-            steps,
-        } = course_of(alloc, &before, plan, &paths)?;
-        for step in &steps {
-            texts.push(*step)?;
-            if shows_at(answer, &views_of(alloc, &texts, &paths)?, 0) {
-                return Ok(true);
-            }
-        }
-        Ok(false)
-    }
-
-    /// Those of the paths that are another's in a later release of a node, after this plan, if the folder's
-    /// own texts show these views.
-    fn taken_in<N: Net<Stream = TcpStream>>(
-        &self,
-        net: &N,
-        alloc: Global,
-        node: &Address,
-        release: u64,
-        views: &[Vec<View>],
-        plan: &[&str],
-    ) -> Result<Vec<String>, EditorFault> {
-        let found = compare_views(net, alloc, node, release, views, &self.paths)?;
-        let answers = answers_at(net, alloc, node, release, &found.taken)?;
-        let mut taken = Vec::new(alloc);
-        for (path, answer) in found.taken.into_iter().zip(&answers) {
-            if !self.is_between(alloc, plan, path.as_str(), answer)? {
-                taken.push(path)?;
-            }
-        }
-        Ok(taken)
-    }
-
     /// Those of the paths that were another's in one of the releases since those that were asked for them, up
     /// to this one, after this plan: a release of a third editor may show the folder's commands in their
     /// place again.
@@ -251,16 +265,16 @@ impl Asked {
         newest: u64,
         plan: &[&str],
     ) -> Result<Vec<String>, EditorFault> {
-        let mut paths = BTreeSet::new(alloc);
-        if newest <= self.release || self.paths.is_empty() {
-            return Ok(Vec::new(alloc));
-        }
-        let views = own_views(alloc, &self.states, &self.paths)?;
+        let mut taken = BTreeSet::new(alloc);
+        let own = OwnTexts {
+            states: &self.states,
+            plan,
+        };
         for release in self.release.saturating_add(1)..newest.saturating_add(1) {
-            for path in self.taken_in(net, alloc, node, release, &views, plan)? {
-                let _ = paths.insert(path)?;
+            for path in compare(net, alloc, node, release, own, &self.paths)?.taken {
+                let _ = taken.insert(path)?;
             }
         }
-        Ok(paths.into_iter().collect(alloc)?)
+        Ok(taken.into_iter().collect(alloc)?)
     }
 }

@@ -1,6 +1,6 @@
 //! How a publication ends.
 ghost use Rattle.std.specs.Prelude.{◌≡◌};
-ghost use Rattle.editor_publish.specs.Endings.{shown_but_for, ending_of, dry_ending, status_of};
+ghost use Rattle.editor_publish.specs.Endings.{shown_of, ending_of, dry_ending, status_of};
 
 use crate::dry_run::Found;
 
@@ -13,11 +13,11 @@ pub(crate) enum Shown {
 }
 
 impl Shown {
-    /// If so many paths are not as the folder has them.
-    pub(crate) fn but_for(paths: usize) -> Shown
-        ensures { result ≡ shown_but_for paths }
+    /// By the number of paths that a release does not show as the folder has them.
+    pub(crate) fn of(unshown: usize) -> Shown
+        ensures { result ≡ shown_of unshown }
     {
-        if paths == 0 {
+        if unshown == 0 {
             Shown::Whole
         } else {
             Shown::NotWhole

@@ -162,14 +162,6 @@ impl<R: Files + Net<Stream = TcpStream> + Clock + AllocGlobal, E: Write> Publish
         }
     }
 
-    /// Sends what an interrupted run left on its way, so that a plan can be made: the release, if it was one.
-    fn send_left(&mut self) -> Result<Option<Made>, EditorFault> {
-        if self.ledger.is_idle() {
-            return Ok(None);
-        }
-        self.send_planned(false)
-    }
-
     /// Asks again for the paths that this publication changes, once its commands, this plan, are in the log:
     /// if another editor has put something at one since, it is taken over, or the publication is refused and
     /// releases nothing. The node gave the receipts of these commands, so it has each release that came
@@ -202,15 +194,27 @@ impl<R: Files + Net<Stream = TcpStream> + Clock + AllocGlobal, E: Write> Publish
         Ok(texts)
     }
 
-    /// Sends what was planned: the release, if it was one. After commands the group is asked again for the
+    /// Sends what is on its way: the release, if it was one. After commands the group is asked again for the
     /// paths that they change.
-    fn send_next(&mut self, asked: &mut Asked) -> Result<Option<Made>, EditorFault> {
+    fn send_and_ask(
+        &mut self,
+        asked: &mut Asked,
+        fresh: bool,
+    ) -> Result<Option<Made>, EditorFault> {
         let plan = self.plan()?;
-        let made = self.send_planned(true)?;
+        let made = self.send_planned(fresh)?;
         if made.is_none() {
             self.ask_again(asked, &plan)?;
         }
         Ok(made)
+    }
+
+    /// Sends what an interrupted run left on its way, so that a plan can be made: the release, if it was one.
+    fn send_left(&mut self, asked: &mut Asked) -> Result<Option<Made>, EditorFault> {
+        if self.ledger.is_idle() {
+            return Ok(None);
+        }
+        self.send_and_ask(asked, false)
     }
 
     /// Brings a folder of these texts into the group, some of them again, beside those that stay though the
@@ -223,13 +227,13 @@ impl<R: Files + Net<Stream = TcpStream> + Clock + AllocGlobal, E: Write> Publish
         stays: &[String],
         again: &[String],
     ) -> Result<Option<Made>, EditorFault> {
-        let mut made = self.send_left()?;
+        let mut made = self.send_left(asked)?;
         let texts = with_staying(self.rt.alloc(), wanted, stays)?;
         plan_again(self.rt.alloc(), self.ledger, &texts, again)?;
         for _ in 0..u64::MAX {
             match advance(self.rt.alloc(), self.ledger, &texts)? {
                 Stage::Done => break,
-                Stage::Sends => made = self.send_next(asked)?.or(made),
+                Stage::Sends => made = self.send_and_ask(asked, true)?.or(made),
             }
         }
         Ok(made)
@@ -244,14 +248,14 @@ impl<R: Files + Net<Stream = TcpStream> + Clock + AllocGlobal, E: Write> Publish
         expected(alloc, wanted, &lent(alloc, &touched)?, all, left)
     }
 
-    /// Whether a release shows what it has to. Each path at which it does not is told.
+    /// Whether a release shows what it has to. Each path at which it does not is reported.
     fn shown(&mut self, release: u64, views: &[View]) -> Result<Shown, EditorFault> {
         let alloc = self.rt.alloc();
         let node = self.group.node()?;
         let paths = tell_differences(self.rt, alloc, self.err, node, release, views)?;
         self.outcome
             .put(alloc, "not_shown", texts_value(alloc, &paths)?)?;
-        Ok(Shown::but_for(paths.len()))
+        Ok(Shown::of(paths.len()))
     }
 
     /// Tells that nothing has changed, if the group's newest release shows the folder.

@@ -11,16 +11,19 @@
 //! Names of templates, partials and data are not seen from outside: so a folder of which nothing has a
 //! receipt joins a group that has releases only if that is asked for.
 //!
-//! What another editor puts there only then, `asked.rt` finds.
+//! What another editor puts there only then, `asked.rt` finds; and `replacing.rt` what an interrupted run has
+//! replaced.
 use crate::asked::{Asked, Compared, compare};
 use crate::comparing::{Change, add_paths, changes_of};
-use crate::made::untold;
+use crate::made::{release_ticket, untold};
+use crate::own::{OwnTexts, texts_since};
 use crate::renewing::{apart_from, texts_of_pages};
+use crate::replacing::replaced;
 use editor_common::{EditorFault, say_made};
 use editor_files::lent;
 use editor_group::{Address, newest};
 use editor_ledger::{Ledger, LedgerFault};
-use editor_plan::{LeftOver, joins, left_by, states_of, touched};
+use editor_plan::{LeftOver, joins, last_shown, left_by, states_of, touched};
 use std::alloc::{AllocError, Global};
 use std::collections::BTreeSet;
 use std::io::Write;
@@ -62,20 +65,30 @@ fn paths_of(
     paths.into_iter().collect(alloc)
 }
 
-/// The pages that a publication changes, if the folder's last release had the first of these states: none if
-/// it touches no text.
-fn changes_by(
+/// Whether a folder's release is on its way. That is as good as made: the run that began it asked for the
+/// paths of its commands before.
+fn is_begun(ledger: &Ledger) -> bool {
+    release_ticket(ledger).is_some()
+}
+
+/// The paths that are compared: those of the pages that a publication changes, and those that it puts or
+/// removes something at. The folder has these states.
+fn compared_paths(
     alloc: Global,
+    ledger: &Ledger,
     states: &[Vec<String>],
     wanted: &[&str],
-    touched: &[String],
-) -> Result<Vec<Change>, AllocError> {
-    match states.first() {
-        Some(released) if !touched.is_empty() => {
-            changes_of(alloc, &lent(alloc, released)?, wanted)
-        }
-        _ => Ok(Vec::new(alloc)),
-    }
+) -> Result<Vec<String>, AllocError> {
+    let (before, touched) = if is_begun(ledger) {
+        (states.last(), ledger.next_texts(alloc, wanted)?)
+    } else {
+        (states.first(), touched(alloc, ledger, wanted)?)
+    };
+    let changes = match before {
+        Some(before) if !touched.is_empty() => { changes_of(alloc, &lent(alloc, before)?, wanted)? }
+        _ => Vec::new(alloc),
+    };
+    paths_of(alloc, &changes, &touched)
 }
 
 /// These paths, and all that the wanted texts are about.
@@ -93,6 +106,9 @@ fn with_all(alloc: Global, paths: &[String], wanted: &[&str]) -> Result<Vec<Stri
 fn unreleased(alloc: Global, ledger: &Ledger) -> Result<BTreeSet<String>, AllocError> {
     let last = ledger.last_release();
     let mut paths = BTreeSet::new(alloc);
+    if is_begun(ledger) {
+        return Ok(paths);
+    }
     for had in ledger.past() {
         if last < had.since {
             add_paths(alloc, &mut paths, &[had.text.as_str()])?;
@@ -144,27 +160,37 @@ fn without(alloc: Global, paths: Vec<String>, these: &[String]) -> Result<Vec<St
     Ok(parted(alloc, paths, &about)?.1)
 }
 
-/// Compares the paths that a publication changes; and all of the folder's, if some of them are taken over or
+/// The paths that are taken over: those that others took over, and those where commands of an interrupted run
+/// have replaced what others put, after the release `shown`. And those that are not the folder's. It compares
+/// the paths that a publication changes; and all of the folder's, if some of them are taken over or
 /// `take_over` asks for that.
 fn compare_all<N: Net<Stream = TcpStream>>(
     net: &N,
     alloc: Global,
     node: &Address,
+    shown: u64,
     release: u64,
-    states: &[Vec<String>],
+    own: OwnTexts<'_>,
     wanted: &[&str],
     paths: &[String],
     take_over: bool,
-) -> Result<Compared, EditorFault> {
+) -> Result<(Vec<String>, Vec<String>), EditorFault> {
     let all = with_all(alloc, paths, wanted)?;
-    if take_over {
-        return compare(net, alloc, node, release, states, &all);
+    let first = if take_over { all.as_slice() } else { paths };
+    let Compared {
+        mut taken,
+        others,
+        fresh,
+    } = compare(net, alloc, node, release, own, first)?;
+    let mut more = replaced(net, alloc, node, shown, release, own, fresh)?;
+    let found = is_about_some(alloc, &taken, wanted)? || is_about_some(alloc, &more, wanted)?;
+    if all.len() == first.len() || !found {
+        taken.append(&mut more)?;
+        return Ok((taken, others));
     }
-    let first = compare(net, alloc, node, release, states, paths)?;
-    if all.len() == paths.len() || !is_about_some(alloc, &first.taken, wanted)? {
-        return Ok(first);
-    }
-    compare(net, alloc, node, release, states, &all)
+    let mut compared = compare(net, alloc, node, release, own, &all)?;
+    compared.taken.append(&mut more)?;
+    Ok((compared.taken, compared.others))
 }
 
 /// Whether a wanted text is about one of the paths.
@@ -198,12 +224,22 @@ pub(crate) fn taken_over<N: Net<Stream = TcpStream>>(
     let Some(release) = newest(net, alloc, node)? else {
         return Err(untold(alloc, node.url.as_str())?);
     };
-    let (states, touched) = (states_of(alloc, ledger)?, touched(alloc, ledger, wanted)?);
-    let changes = changes_by(alloc, &states, wanted, &touched)?;
-    let compared = paths_of(alloc, &changes, &touched)?;
-    let Compared { taken, others } = compare_all(
-        net, alloc, node, release, &states, wanted, &compared, take_over,
+    let states = states_of(alloc, ledger)?;
+    let compared = compared_paths(alloc, ledger, &states, wanted)?;
+    let shown = if is_begun(ledger) {
+        release
+    } else {
+        last_shown(ledger)
+    };
+    let plan = texts_since(alloc, &states)?;
+    let own = OwnTexts {
+        states: &states,
+        plan: &plan,
+    };
+    let (taken, others) = compare_all(
+        net, alloc, node, shown, release, own, wanted, &compared, take_over,
     )?;
+    drop(plan);
     let (paths, left) = taken_and_left(alloc, ledger, wanted, taken, take_over)?;
     let asked = without(alloc, without(alloc, compared, &paths)?, &left)?;
     Ok(Taken {
