@@ -25,20 +25,20 @@ fn render_matches<'a>(alloc: Global, words: &'a [String]) -> Result<ArgMatches<'
     ensures release { IfOk result (λ m. (t : List ℕ) → one_text (found_of m) (codes "release") ≡ Some t → IsUnsignedIn 0 18446744073709551615 t) }
 {
     let does =
-        "Prints the page for a path, of the newest release of a site that comes on standard input as framed commands";
+        "Prints a page of the site whose commands come on standard input (sitepub frame writes them)";
     let example =
         "Example:\n  sitepub frame examples/status/1 | siterender /status\n\n--version prints the program's version";
     let command = described(alloc, "siterender", does, example)
         .arg(number_option(
             alloc,
             "release",
-            "Shows release N, from 1, in place of the newest",
+            "Prints the page of release N, not of the newest. Releases count from 1",
         ))?
         .arg(word_argument(
             alloc,
             "path",
             "PATH",
-            "The path of the page, as a route names it: /status",
+            "The path of the page, such as /status",
         ))?;
     command.try_get_matches_from(words)
 }

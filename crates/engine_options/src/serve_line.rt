@@ -26,7 +26,7 @@ fn id_option<'a>(alloc: Global) -> Arg<'a>
         alloc,
         "id",
         "P",
-        "This server's number, 1 to as many as there are addresses",
+        "This server's number: 1 for the first ADDRESS, 2 for the second, and so on",
     )
     .value_parser(clap::value_parser!(u8))
 }
@@ -43,7 +43,7 @@ fn rounds_option<'a>(alloc: Global) -> Arg<'a>
         alloc,
         "rounds",
         "R",
-        "Stops after R laps of work, each 40 + 10 P looks at what has come",
+        "Ends after R laps. A lap of server P is 40 + 10 P turns of its loop. 4294967295 laps take years",
     )
     .value_parser(clap::value_parser!(u32))
 }
@@ -57,7 +57,7 @@ fn format_flag<'a>(alloc: Global) -> Arg<'a>
     Arg::new(alloc, "format")
         .long("format")
         .help(
-            "Makes an empty record first, where FILE is empty or missing: for a new group alone, as an old number without its record needs --above",
+            "Makes an empty record first, if FILE is empty or missing. Only for a new group: a number that was in use needs --above too",
         )
         .action(ArgAction::SetTrue)
 }
@@ -72,7 +72,7 @@ fn above_option<'a>(alloc: Global) -> Arg<'a>
         .long("above")
         .value_name("P:REACH")
         .help(
-            "Makes a new record first for a node whose own is lost: once for each of more than half of the group's nodes, none of them this one, as '--inspect' tells of its record",
+            "With --format: makes a record for a server whose own is lost. REACH is what '--inspect' prints as 'reaches' of server P's record. Give it for more than half of the group's servers, without this one",
         )
         .action(ArgAction::Append)
 }
@@ -85,7 +85,7 @@ fn verbose_flag<'a>(alloc: Global) -> Arg<'a>
 {
     Arg::new(alloc, "verbose")
         .long("verbose")
-        .help("Says on standard error what it sees of the others, and why where it halts")
+        .help("Reports on standard error what it sees of the other servers, and why it ended")
         .action(ArgAction::SetTrue)
 }
 
@@ -98,7 +98,7 @@ fn address_arguments<'a>(alloc: Global) -> Arg<'a>
     Arg::new(alloc, "address")
         .value_name("ADDRESS")
         .help(
-            "Where each server hears the others, IP:PORT: that of server 1, of server 2, and so on, this one's among them",
+            "Where each server receives datagrams, IP:PORT: the address of server 1, then that of server 2, and so on. This server's own is one of them",
         )
         .action(ArgAction::Append)
 }
@@ -116,20 +116,20 @@ fn serve_matches<'a>(alloc: Global, words: &'a [String]) -> Result<ArgMatches<'a
     ensures serving { IfOk result (λ m. (t : List ℕ) → one_text (found_of m) (codes "serve-ms") ≡ Some t → IsUnsignedIn 0 18446744073709551615 t) }
 {
     let example =
-        "Example, server 1 of 3 on one machine:\n  sited --id 1 --record /var/lib/sited/1.record --format --http 127.0.0.1:8001 --rounds 4294967295 127.0.0.1:7001 127.0.0.1:7002 127.0.0.1:7003\n\nIn the place of server 1 that is lost with its record, where '--inspect' tells 'reaches: 57' of server 2 and 'reaches: 60' of server 3:\n  sited --id 1 --record /var/lib/sited/1.record --format --above 2:57 --above 3:60 --http 127.0.0.1:8001 --rounds 0 127.0.0.1:7001 127.0.0.1:7002 127.0.0.1:7003\n\n--inspect FILE alone prints what a record holds, also while a server runs over it\n--version prints the program's version";
+        "Examples, server 1 of 3 on one machine. Once, for a new group:\n  sited --id 1 --record 1.record --format --http 127.0.0.1:8001 --rounds 0 127.0.0.1:7001 127.0.0.1:7002 127.0.0.1:7003\n\nEach later start:\n  sited --id 1 --record 1.record --http 127.0.0.1:8001 --rounds 4294967295 127.0.0.1:7001 127.0.0.1:7002 127.0.0.1:7003\n\nOnce, if server 1 is lost with its record, and '--inspect' prints 'reaches: 57' for server 2 and 'reaches: 60' for server 3:\n  sited --id 1 --record 1.record --format --above 2:57 --above 3:60 --http 127.0.0.1:8001 --rounds 0 127.0.0.1:7001 127.0.0.1:7002 127.0.0.1:7003\n\nsited --inspect FILE prints what a record holds, even while a server runs over it\nsited --version prints the program's version";
     let args = vec![in alloc;
         id_option(alloc),
         required_option(
             alloc,
             "record",
             "FILE",
-            "The file that keeps what this server has promised and voted",
+            "The file in which this server keeps its promises, its votes and what it learned",
         ),
         required_option(
             alloc,
             "http",
             "ADDRESS",
-            "Where this server answers HTTP requests, IP:PORT: 64 connections at once, each closed after 5 seconds between requests, or 1 without progress in one",
+            "Where this server answers HTTP requests, IP:PORT. It has 64 connections at once. It closes one on which nothing moves for 5 seconds between requests, or for 1 second within a request",
         ),
         rounds_option(alloc),
         format_flag(alloc),
@@ -137,12 +137,12 @@ fn serve_matches<'a>(alloc: Global, words: &'a [String]) -> Result<ArgMatches<'a
         number_option(
             alloc,
             "patience-ms",
-            "Tries again after N milliseconds without progress, 100 where none are named: for use, 100 or three round trips, whichever is more",
+            "Tries again after N milliseconds without progress. The default is 100. Take three round trips between the servers, if that is more",
         ),
         number_option(
             alloc,
             "serve-ms",
-            "Closes a connection whose request takes N milliseconds, from its first byte to the last of its response",
+            "Closes a connection if a request takes longer than N milliseconds, from its first byte to the last byte of its response",
         ),
         verbose_flag(alloc),
         address_arguments(alloc),
