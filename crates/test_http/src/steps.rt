@@ -96,10 +96,14 @@ impl Client<'_> {
         Ok(())
     }
 
-    /// Answers one request, if there is one.
+    /// Answers the requests that are there, a hundred at most.
     fn answer(&mut self, desk: &mut Desk<'_>) -> Result<(), AllocError> {
         let mut spans = Vec::new(desk.alloc);
-        let _ = self.connection.advance(desk.alloc, desk, &mut spans)?;
+        for _ in 0..100 {
+            if !self.connection.advance(desk.alloc, desk, &mut spans)? {
+                break;
+            }
+        }
         Ok(())
     }
 
@@ -127,6 +131,23 @@ impl Client<'_> {
             self.pass(desk)?;
         }
         Ok(())
+    }
+
+    /// Reads once, answers what is there, and writes once: each second call comes too early.
+    fn writes_once(&mut self, desk: &mut Desk<'_>) -> Result<(), AllocError> {
+        self.hear()?;
+        self.hear()?;
+        self.answer(desk)?;
+        self.tell();
+        self.tell();
+        Ok(())
+    }
+
+    /// Writes what waits. If memory was refused, it waits still.
+    fn finish(&mut self) {
+        for _ in 0..20_000 {
+            self.tell();
+        }
     }
 
     fn into_run(self, end: Result<(), AllocError>) -> Run {
@@ -163,5 +184,18 @@ pub(crate) struct Run {
 pub(crate) fn led(desk: &mut Desk<'_>, reader: Pieces<'_>, room: Room) -> Run {
     let mut client = connected(desk.alloc, reader, room);
     let end = client.passes(desk);
+    client.finish();
     client.into_run(end)
+}
+
+/// How many requests are answered before anything is written, and how many bytes the first write then has.
+/// `None` if memory was refused.
+pub(crate) fn waits(desk: &mut Desk<'_>, reader: Pieces<'_>) -> Option<(u32, usize)> {
+    let mut client = connected(desk.alloc, reader, AMPLE);
+    let end = client.writes_once(desk);
+    let run = client.into_run(end);
+    let waited = (run.answered, run.written.len());
+    let is_ok = run.result.is_ok();
+    drop(run);
+    is_ok.then_some(waited)
 }

@@ -13,14 +13,14 @@ const FEW: &[bool] = &[
     false, false, false, true, false, false, false, false, false, false, false,
 ];
 
-const MANY: &[bool] = &[
+pub(crate) const MANY: &[bool] = &[
     false, true, false, false, false, false, false, true, true, false, false, false, false, false,
     false, true, false, false, false, false, false, true, false,
 ];
 
 /// A message of that kind from a server, about an instance whose value has a hundred bytes: with this ballot, or
 /// with none.
-fn message(
+pub(crate) fn message(
     rt: &impl Abort,
     alloc: Global,
     kind: u8,
@@ -122,7 +122,7 @@ fn a_server_catches_up_in_time(rt: HostRuntime) {
 const FIRST: &[u8] = &[0, 0, 0, 1, 1];
 
 /// A server votes for the first so many values, and hears that a majority of so many servers did.
-fn votes(rt: &impl Abort, group: &mut Group, number: u8, count: u32, size: u8) {
+pub(crate) fn votes(rt: &impl Abort, group: &mut Group, number: u8, count: u32, size: u8) {
     let (alloc, now) = (group.alloc, group.now);
     let server = group.server(rt, number);
     for instance in 1..=count {

@@ -60,6 +60,26 @@ fn behind(known: u32, reached: u32, drained: bool) -> Seen {
 }
 
 #[test]
+fn a_server_asks_on_for_what_it_kept(rt: HostRuntime) {
+    // One value more is known than at the last question. Somebody tries a value, and messages reached no
+    // further.
+    for kept in [false, true] {
+        let last = LastQuestion {
+            at: Some(1000),
+            known: 7,
+            tried: true,
+            again: 0,
+        };
+        let seen = Seen {
+            kept,
+            ..behind(8, 8, true)
+        };
+        let asking = last.asking(TIMES, 1001, seen, 0, false);
+        same(&rt, (kept, asking.is_due()), (kept, kept));
+    }
+}
+
+#[test]
 fn a_server_asks_in_its_time_and_behind_news(rt: HostRuntime) {
     for &(at, now, empty, known, reached, drained, tried, more, asks) in ASKS {
         let last = LastQuestion {

@@ -11,6 +11,8 @@ mod catching_up;
 #[cfg(test)]
 mod client;
 #[cfg(test)]
+mod coming_back;
+#[cfg(test)]
 mod comparing;
 #[cfg(test)]
 mod courses;

@@ -37,6 +37,7 @@ pub(crate) const TIMES: Times = Times {
     lingering: 2000,
     keeps_seat: 2000,
     receipts: 100,
+    holds: 5,
     serve_ms: None,
 };
 
@@ -145,6 +146,7 @@ pub(crate) fn seen(known: u32, wanted: bool, resumes: bool) -> Seen {
         drained: true,
         stake: true,
         resumes,
+        kept: false,
     }
 }
 
