@@ -8,8 +8,9 @@ use Rattle.editor_folder.specs.declared.moved.TheConstants.{ESCAPED}
 abbrev pub address_of : List ℕ → List ℕ
 address_of target = percent_encode ESCAPED target
 
--- a page that leads on to the target, at once and by a link
+-- a page that leads on to the target, at once and by a link, and names it as the canonical address
 abbrev pub moved_page : List ℕ → List ℕ
 moved_page target =
-    codes "<!DOCTYPE html>\n<meta charset=\"utf-8\">\n<meta http-equiv=\"refresh\" content=\"0; url="
-    ++ (address_of target ++ (codes "\">\n<title>Moved</title>\n<p>Moved to <a href=\"" ++ (address_of target ++ (codes "\">" ++ (escaped target ++ codes "</a></p>\n")))))
+    codes "<!DOCTYPE html>\n<meta charset=\"utf-8\">\n<link rel=\"canonical\" href=\""
+    ++ (address_of target ++ (codes "\">\n<meta http-equiv=\"refresh\" content=\"0; url="
+    ++ (address_of target ++ (codes "\">\n<title>Moved</title>\n<p>Moved to <a href=\"" ++ (address_of target ++ (codes "\">" ++ (escaped target ++ codes "</a></p>\n")))))))

@@ -17,7 +17,7 @@ pub const ESCAPED: AsciiSet = ascii_set!(
         .remove(b'/')
 );
 
-/// A page that leads on to a target, at once and by a link.
+/// A page that leads on to a target, at once and by a link, and names it as the canonical address (RFC 6596).
 pub(crate) fn moved_page(alloc: Global, target: &str) -> Result<String, AllocError>
     ensures { IfOk result (λ page. string_bytes page ≡ moved_page target.now) }
 {
@@ -25,6 +25,6 @@ pub(crate) fn moved_page(alloc: Global, target: &str) -> Result<String, AllocErr
     let mut name = String::new(alloc);
     escape_into(target, &mut name)?;
     format!(in alloc;
-        "<!DOCTYPE html>\n<meta charset=\"utf-8\">\n<meta http-equiv=\"refresh\" content=\"0; url={url}\">\n<title>Moved</title>\n<p>Moved to <a href=\"{url}\">{name}</a></p>\n"
+        "<!DOCTYPE html>\n<meta charset=\"utf-8\">\n<link rel=\"canonical\" href=\"{url}\">\n<meta http-equiv=\"refresh\" content=\"0; url={url}\">\n<title>Moved</title>\n<p>Moved to <a href=\"{url}\">{name}</a></p>\n"
     )
 }

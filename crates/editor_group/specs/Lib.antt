@@ -4,3 +4,4 @@ pub mod Confirming
 pub mod Delivering
 pub mod Logins
 pub mod Statuses
+pub mod Numbers

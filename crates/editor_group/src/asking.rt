@@ -1,5 +1,6 @@
 //! Questions to a node over one connection.
-ghost use Rattle.std.specs.Prelude.{◌≡◌, ◌≤◌, [], length, vec_len, IfOk, IsOk, IsSome};
+ghost use Rattle.std.specs.Prelude.{◌≡◌, ◌≤◌, ℕ, [], length, vec_len, IfOk, IsOk, MatchOption};
+ghost use Rattle.editor_group.specs.Numbers.{Spells, Numbers};
 
 use crate::address::Address;
 use editor_http::{Authority, NodeAnswer, NodeAnswerFault, Question, read_answer};
@@ -220,14 +221,22 @@ pub fn ask<N: Net<Stream = TcpStream>>(
     ask_within(net, alloc, node, questions, WAITING)
 }
 
+/// The number of a text, with blanks after it at most.
+fn number_of(text: &str) -> Option<u64>
+    ensures { MatchOption result ((n : ℕ) → ¬ (Spells text.now n)) (Spells text.now) }
+{
+    text.trim_end().parse().ok()
+}
+
 /// The number that a node answers.
 pub(crate) fn number_in(answer: &NodeAnswer) -> Option<u64>
-    ensures { IsSome result → answer.now.status ≡ 200 }
+    ensures { MatchOption result ((n : ℕ) → ¬ (Numbers answer.now n)) (Numbers answer.now) }
 {
     if answer.status != 200 {
         return None;
     }
-    str::from_utf8(&answer.body).ok()?.trim_end().parse().ok()
+    let text = str::from_utf8(&answer.body).ok()?;
+    number_of(text)
 }
 
 /// The number of a node's newest release; nothing if the node does not say. A node may say any number, so no

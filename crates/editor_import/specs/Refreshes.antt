@@ -1,5 +1,5 @@
 -- Where a page leads on to.
-use Rattle.std.specs.Prelude.{ℕ, List, [], ◌∷◌, Option, None, Some, codes}
+use Rattle.std.specs.Prelude.{◌≡◌, ℕ, List, Option, None, Some, codes}
 use Rattle.mustache_scan.specs.Cutting.{cut}
 
 -- what stands before a cut, and what after it
@@ -7,18 +7,32 @@ abbrev pub cut_front : Option (List ℕ × List ℕ) → Option (List ℕ)
 cut_front None = None
 cut_front (Some (before, after)) = Some before
 
-abbrev pub up_to_mark : Option (List ℕ × List ℕ) → Option (List ℕ)
-up_to_mark None = None
-up_to_mark (Some (before, after)) = cut_front (cut (34 ∷ []) after)
+abbrev pub up_to : List ℕ → Option (List ℕ × List ℕ) → Option (List ℕ)
+up_to mark None = None
+up_to mark (Some (before, after)) = cut_front (cut mark after)
 
--- what stands behind the first place of an opening, up to the next quotation mark
-abbrev pub address_behind : List ℕ → List ℕ → Option (List ℕ)
-address_behind opening page = up_to_mark (cut opening page)
+-- what stands after the first place of an opening, up to the next mark
+abbrev pub address_behind : List ℕ → List ℕ → List ℕ → Option (List ℕ)
+address_behind opening mark page = up_to mark (cut opening page)
 
 abbrev pub or_else : Option (List ℕ) → Option (List ℕ) → Option (List ℕ)
 or_else None other = other
 or_else (Some address) other = Some address
 
--- the address to which a page leads on at once: behind the opening that generators write, else behind the short one
+-- the address to which a page goes at once: after the opening that generators write, else after the short one
 abbrev pub refresh : List ℕ → Option (List ℕ)
-refresh page = or_else (address_behind (codes "<meta http-equiv=\"refresh\" content=\"0; url=") page) (address_behind (codes "<meta http-equiv=refresh content=\"0; url=") page)
+refresh page =
+    or_else (address_behind (codes "<meta http-equiv=\"refresh\" content=\"0; url=") (codes "\"") page)
+    (address_behind (codes "<meta http-equiv=refresh content=\"0; url=") (codes "\"") page)
+
+-- the address that a page names as its canonical one (RFC 6596), likewise
+abbrev pub canonical : List ℕ → Option (List ℕ)
+canonical page =
+    or_else (address_behind (codes "<link rel=\"canonical\" href=\"") (codes "\"") page)
+    (address_behind (codes "<link rel=canonical href=") (codes ">") page)
+
+-- A page leads on to the address: it goes there at once, and names it as its canonical one. So a page whose
+-- script or comment has such a line leads nowhere.
+pub record LeadsOn (page address : List ℕ) : Type 0 where
+  pub at_once : refresh page ≡ Some address
+  pub named : canonical page ≡ Some address

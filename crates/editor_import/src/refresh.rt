@@ -1,13 +1,19 @@
 //! Where a page leads on to.
-ghost use Rattle.std.specs.Prelude.{◌≡◌, ◌<◌, length, option_map};
+ghost use Rattle.std.specs.Prelude.{◌≡◌, ◌<◌, ℕ, List, length, option_map, MatchOption};
 ghost use Rattle.mustache_scan.specs.Cutting.{cut};
-ghost use Rattle.editor_import.specs.Refreshes.{address_behind, refresh};
+ghost use Rattle.editor_import.specs.Refreshes.{address_behind, refresh, canonical, LeadsOn};
 
-/// What stands before the address in a page that leads on at once, as generators write it.
-pub(crate) const WRITTEN: &str = "<meta http-equiv=\"refresh\" content=\"0; url=";
+/// What stands before the address in a page that goes elsewhere at once, as generators write it.
+const REFRESH: &str = "<meta http-equiv=\"refresh\" content=\"0; url=";
 
 /// The same in a page without the marks that HTML can do without.
-pub(crate) const SHORT: &str = "<meta http-equiv=refresh content=\"0; url=";
+const SHORT_REFRESH: &str = "<meta http-equiv=refresh content=\"0; url=";
+
+/// What stands before a page's canonical address, as generators write it.
+const CANONICAL: &str = "<link rel=\"canonical\" href=\"";
+
+/// The same in a page without the marks that HTML can do without.
+const SHORT_CANONICAL: &str = "<link rel=canonical href=";
 
 /// A text cut round the first place of a part.
 fn cut<'a>(text: &'a str, part: &str) -> Option<(&'a str, &'a str)>
@@ -17,22 +23,47 @@ fn cut<'a>(text: &'a str, part: &str) -> Option<(&'a str, &'a str)>
     text.split_once(part)
 }
 
-/// What stands behind an opening, up to the next quotation mark.
-fn address_behind<'a>(opening: &str, page: &'a str) -> Option<&'a str>
-    requires { 0 < length opening.now }
-    ensures { option_map (λ a. a.now) result ≡ address_behind opening.now page.now }
+/// What stands after an opening, up to the next mark.
+fn address_behind<'a>(opening: &str, mark: &str, page: &'a str) -> Option<&'a str>
+    requires opening { 0 < length opening.now }
+    requires mark { 0 < length mark.now }
+    ensures { option_map (λ a. a.now) result ≡ address_behind opening.now mark.now page.now }
 {
     let (_, behind) = cut(page, opening)?;
-    let (address, _) = cut(behind, "\"")?;
+    let (address, _) = cut(behind, mark)?;
     Some(address)
 }
 
-/// The address to which a page leads on at once, if it does.
-pub fn alias_of(page: &str) -> Option<&str>
+/// The address to which a page goes at once, if it does.
+fn refresh_of(page: &str) -> Option<&str>
     ensures { option_map (λ a. a.now) result ≡ refresh page.now }
 {
-    match address_behind(WRITTEN, page) {
+    match address_behind(REFRESH, "\"", page) {
         Some(address) => Some(address),
-        None => address_behind(SHORT, page),
+        None => address_behind(SHORT_REFRESH, "\"", page),
+    }
+}
+
+/// The address that a page names as its canonical one (RFC 6596), if it does.
+fn canonical_of(page: &str) -> Option<&str>
+    ensures { option_map (λ a. a.now) result ≡ canonical page.now }
+{
+    match address_behind(CANONICAL, "\"", page) {
+        Some(address) => Some(address),
+        None => address_behind(SHORT_CANONICAL, ">", page),
+    }
+}
+
+/// The address to which a page leads on, if it does: it goes there at once, and names the same address as its
+/// canonical one.
+pub fn alias_of(page: &str) -> Option<&str>
+    ensures { MatchOption result ((a : List ℕ) → ¬ (LeadsOn page.now a)) (λ a. LeadsOn page.now a.now) }
+{
+    let address = refresh_of(page)?;
+    let canonical = canonical_of(page)?;
+    if canonical == address {
+        Some(address)
+    } else {
+        None
     }
 }

@@ -4,13 +4,13 @@ use Rattle.std.specs.List.{flat_map}
 use Rattle.std.specs.Char.{digit_value}
 use Rattle.std.specs.Str.Parse.{AllDigits, digits_value}
 use Rattle.std.proofs.lemmas.Fmt.{decimal_is_IsNumeral}
-use Rattle.std.proofs.lemmas.List.{append-nil, take_at, drop_at}
+use Rattle.std.proofs.lemmas.List.{take_at, drop_at}
 use Rattle.std.proofs.lemmas.List.Elements.{All-head, All-tail}
 use Rattle.command.specs.Cuts.{cut_at}
 use Rattle.editor_ledger.specs.Books.{Given, Book}
 use Rattle.editor_ledger.specs.Laws.{SpellsOne}
 use Rattle.editor_ledger.specs.Sizes.{Fits, FitsReleased, FitsText, FitsGiven, FitsBook}
-use Rattle.editor_ledger.specs.Spelling.{released_line, kept_entry, numbered_entry, sent_entry, past_entry, message_entry, spelled}
+use Rattle.editor_ledger.specs.Spelling.{released_line, kept_entry, numbered_entry, sent_entry, past_entry, message_entry, last_line, spelled}
 use Rattle.editor_ledger.specs.declared.released.Released.{Released}
 use Rattle.editor_ledger.proofs.Words.{lacks, cut_it}
 
@@ -129,7 +129,7 @@ section f P b lead one (a ∷ more) (c ∷ cs) xs ys first second absent none is
 
 -- the sections behind those of releases, of messages, of kept texts
 abbrev sent_part : Book → List ℕ
-sent_part book = flat_map sent_entry book.sent
+sent_part book = flat_map sent_entry book.sent ++ last_line
 
 abbrev past_part : Book → List ℕ
 past_part book = flat_map past_entry book.past ++ sent_part book
@@ -143,23 +143,23 @@ message_part book = flat_map message_entry book.messages ++ kept_part book
 abbrev log_part : Book → List ℕ
 log_part book = flat_map released_line book.log ++ message_part book
 
-no_past : (sent : List Given) → starts 119 (flat_map sent_entry sent) ≡ false
+no_past : (sent : List Given) → starts 119 (flat_map sent_entry sent ++ last_line) ≡ false
 no_past [] = refl
 no_past (g ∷ sent) = refl
 
-no_kept : (past sent : List Given) → starts 104 (flat_map past_entry past ++ flat_map sent_entry sent) ≡ false
+no_kept : (past sent : List Given) → starts 104 (flat_map past_entry past ++ (flat_map sent_entry sent ++ last_line)) ≡ false
 no_kept [] [] = refl
 no_kept [] (g ∷ sent) = refl
 no_kept (g ∷ past) sent = refl
 
-no_message : (kept : List (List ℕ)) (past sent : List Given) → starts 116 (flat_map kept_entry kept ++ (flat_map past_entry past ++ flat_map sent_entry sent)) ≡ false
+no_message : (kept : List (List ℕ)) (past sent : List Given) → starts 116 (flat_map kept_entry kept ++ (flat_map past_entry past ++ (flat_map sent_entry sent ++ last_line))) ≡ false
 no_message [] [] [] = refl
 no_message [] [] (g ∷ sent) = refl
 no_message [] (g ∷ past) sent = refl
 no_message (t ∷ kept) past sent = refl
 
 no_released : (messages : List Given) (kept : List (List ℕ)) (past sent : List Given)
-    → starts 114 (flat_map message_entry messages ++ (flat_map kept_entry kept ++ (flat_map past_entry past ++ flat_map sent_entry sent))) ≡ false
+    → starts 114 (flat_map message_entry messages ++ (flat_map kept_entry kept ++ (flat_map past_entry past ++ (flat_map sent_entry sent ++ last_line)))) ≡ false
 no_released [] [] [] [] = refl
 no_released [] [] [] (g ∷ sent) = refl
 no_released [] [] (g ∷ past) sent = refl
@@ -211,6 +211,6 @@ spells_one book other first second is =
     first.kept second.kept (no_kept book.past book.sent) (no_kept other.past other.sent) messages.1 in
     let past = section past_entry FitsGiven 119 (λ g xs. refl) (entry_one (codes "was")) book.past other.past (sent_part book) (sent_part other)
     first.past second.past (no_past book.sent) (no_past other.sent) kept.1 in
-    let sent = section sent_entry FitsGiven 115 (λ g xs. refl) (entry_one (codes "sent")) book.sent other.sent [] []
-    first.sent second.sent refl refl (append-nil (flat_map sent_entry book.sent) ∙ past.1 ∙ sym (append-nil (flat_map sent_entry other.sent))) in
+    let sent = section sent_entry FitsGiven 115 (λ g xs. refl) (entry_one (codes "sent")) book.sent other.sent last_line last_line
+    first.sent second.sent refl refl past.1 in
     same_book book other front.editor front.next front.last_release log.0 messages.0 kept.0 past.0 sent.0

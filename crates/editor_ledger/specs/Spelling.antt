@@ -34,10 +34,15 @@ front_lines editor next last_release =
     ++ (codes "\nlast_release "
     ++ (decimal last_release ++ (10 ∷ []))))))
 
+-- the last line, by which a file that was cut short is told from a whole one
+abbrev pub last_line : List ℕ
+last_line = codes "end\n"
+
 abbrev pub spelled : Book → List ℕ
 spelled book =
     front_lines book.editor book.next book.last_release
     ++ (flat_map released_line book.log
     ++ (flat_map message_entry book.messages
     ++ (flat_map kept_entry book.kept
-    ++ (flat_map past_entry book.past ++ flat_map sent_entry book.sent))))
+    ++ (flat_map past_entry book.past
+    ++ (flat_map sent_entry book.sent ++ last_line)))))

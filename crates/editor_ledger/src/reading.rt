@@ -9,6 +9,7 @@ use crate::message::Message;
 use crate::past::Past;
 use crate::released::Released;
 use crate::sent::Sent;
+use crate::spelling::LAST_LINE;
 use std::alloc::Global;
 
 /// The version of the file.
@@ -172,20 +173,20 @@ impl Ledger {
         Ok(())
     }
 
-    /// Enters all that is left of a text; an entry takes a byte or more.
+    /// Enters all entries of what is left of a text, up to the last line. An entry takes a byte or more.
     fn enter_all(&mut self, alloc: Global, behind: Rest<'_>) -> Result<(), LedgerReadFault>
         ensures { IfErr result (λ e. e ≢ LedgerReadFault.Old) }
     {
         let mut rest = behind;
         for _ in 0..behind.text.len() {
-            if rest.text.is_empty() {
+            if rest.text == LAST_LINE {
                 return Ok(());
             }
             let (entry, after) = rest.entry()?;
             self.enter(alloc, entry)?;
             rest = after;
         }
-        Ok(())
+        Err(LedgerReadFault::Line(rest.line))
     }
 }
 

@@ -11,6 +11,9 @@ use crate::released::Released;
 use crate::sent::Sent;
 use std::alloc::{AllocError, Global};
 
+/// The last line of the file, by which one that was cut short is told from a whole one.
+pub(crate) const LAST_LINE: &str = "end\n";
+
 fn front_lines(
     alloc: Global,
     editor: u32,
@@ -112,6 +115,7 @@ impl Ledger {
         text.push_str(kept_entries(alloc, self.kept())?.as_str())?;
         text.push_str(past_entries(alloc, self.past())?.as_str())?;
         text.push_str(sent_entries(alloc, self.sent())?.as_str())?;
+        text.push_str(LAST_LINE)?;
         Ok(text)
     }
 }

@@ -282,7 +282,7 @@ const HEARD: &[(Ask, u16, Heard)] = &[
 ];
 
 /// The file of a ledger whose release is on its way.
-const ONE_SENT: &str = "published 2\neditor 7\nnext 2\nlast_release 0\nsent 1 8\nrelease\n\n";
+const ONE_SENT: &str = "published 2\neditor 7\nnext 2\nlast_release 0\nsent 1 8\nrelease\n\nend\n";
 
 fn hears(rt: &impl Abort, alloc: Global, ask: Ask, status: u16, wanted: Heard) {
     let mut ledger = read(rt, alloc, ONE_SENT);

@@ -133,7 +133,7 @@ const PAGES: &[PageRow] = &[
         "/c",
         ("redirects", 2),
         301,
-        "<!DOCTYPE html>\n<meta charset=\"utf-8\">\n<meta http-equiv=\"refresh\" content=\"0; url=/b\">\n<title>Moved</title>\n<p>Moved to <a href=\"/b\">/b</a></p>\n",
+        "<!DOCTYPE html>\n<meta charset=\"utf-8\">\n<link rel=\"canonical\" href=\"/b\">\n<meta http-equiv=\"refresh\" content=\"0; url=/b\">\n<title>Moved</title>\n<p>Moved to <a href=\"/b\">/b</a></p>\n",
     ),
 ];
 

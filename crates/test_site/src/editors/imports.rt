@@ -78,30 +78,43 @@ fn paths_of_files(rt: HostRuntime) {
     }
 }
 
-/// Pages, and the addresses to which they lead on at once.
+/// Pages, and the addresses to which they lead on: a page that has none, the two forms of a page that has one,
+/// and pages that say it by halves or of two addresses.
 const ALIASES: &[(&str, Option<&str>)] = &[
     ("<p>Hello</p>", None),
     (
-        "<meta http-equiv=\"refresh\" content=\"0; url=https://example.org/new/\">",
+        "<link rel=\"canonical\" href=\"https://example.org/new/\"><meta http-equiv=\"refresh\" content=\"0; url=https://example.org/new/\">",
         Some("https://example.org/new/"),
     ),
     (
-        "<!doctype html><meta http-equiv=refresh content=\"0; url=/new/\"></html>",
+        "<!doctype html><link rel=canonical href=/new/><meta http-equiv=refresh content=\"0; url=/new/\"></html>",
         Some("/new/"),
     ),
     (
-        "<meta http-equiv=\"refresh\" content=\"0; url=../a\"><meta http-equiv=\"refresh\" content=\"0; url=../b\">",
+        "<meta http-equiv=\"refresh\" content=\"0; url=../a\"><meta http-equiv=\"refresh\" content=\"0; url=../b\"><link rel=\"canonical\" href=\"../a\">",
         Some("../a"),
     ),
-    ("<meta http-equiv=\"refresh\" content=\"0; url=", None),
     (
-        "<meta http-equiv=\"refresh\" content=\"5; url=/later/\">",
+        "<link rel=\"canonical\" href=\"/new/\"><meta http-equiv=\"refresh\" content=\"0; url=",
         None,
     ),
     (
-        "<p>&lt;meta http-equiv=\"refresh\" content=\"0; url=/quoted/\"&gt;</p>",
+        "<link rel=\"canonical\" href=\"/later/\"><meta http-equiv=\"refresh\" content=\"5; url=/later/\">",
         None,
     ),
+    (
+        "<link rel=\"canonical\" href=\"/quoted/\"><p>&lt;meta http-equiv=\"refresh\" content=\"0; url=/quoted/\"&gt;</p>",
+        None,
+    ),
+    (
+        "<noscript><meta http-equiv=\"refresh\" content=\"0; url=/plain/\"></noscript><p>Hello</p>",
+        None,
+    ),
+    (
+        "<link rel=\"canonical\" href=\"/page/\"><!-- <meta http-equiv=\"refresh\" content=\"0; url=/old/\"> --><p>Hello</p>",
+        None,
+    ),
+    ("<link rel=\"canonical\" href=\"/new/\"><p>Hello</p>", None),
 ];
 
 #[test]
@@ -117,27 +130,27 @@ const PUBLIC: &[(&str, &[u8])] = &[
     ("_draft/index.html", b"x"),
     (
         "alt/index.html",
-        b"<meta http-equiv=\"refresh\" content=\"0; url=https://example.org/caf%C3%A9/\">",
+        b"<link rel=\"canonical\" href=\"https://example.org/caf%C3%A9/\"><meta http-equiv=\"refresh\" content=\"0; url=https://example.org/caf%C3%A9/\">",
     ),
     (
         "away.html",
-        b"<meta http-equiv=\"refresh\" content=\"0; url=https://other.example/\">",
+        b"<link rel=\"canonical\" href=\"https://other.example/\"><meta http-equiv=\"refresh\" content=\"0; url=https://other.example/\">",
     ),
     ("bytes.html", b"\xff"),
     ("caf\u{e9}/index.html", b"{{x}}"),
     ("index.html", b"<a href=\"/caf%C3%A9/\">"),
     (
         "old/index.html",
-        b"<meta http-equiv=\"refresh\" content=\"0; url=../index.html\">",
+        b"<link rel=\"canonical\" href=\"../index.html\"><meta http-equiv=\"refresh\" content=\"0; url=../index.html\">",
     ),
     (
         "older/index.html",
-        b"<meta http-equiv=\"refresh\" content=\"0; url=../\">",
+        b"<link rel=\"canonical\" href=\"../\"><meta http-equiv=\"refresh\" content=\"0; url=../\">",
     ),
     ("picture.png", b""),
     (
         "place.html",
-        b"<meta http-equiv=\"refresh\" content=\"0; url=/#top\">",
+        b"<link rel=\"canonical\" href=\"/#top\"><meta http-equiv=\"refresh\" content=\"0; url=/#top\">",
     ),
     (
         "sitemap.xml",
@@ -150,7 +163,7 @@ const FOLDER: &[(&str, &str)] = &[
     ("templates/404.mustache", "{{=^ ^=}}\nnone"),
     (
         "templates/away.mustache",
-        "{{=^ ^=}}\n<meta http-equiv=\"refresh\" content=\"0; url=https://other.example/\">",
+        "{{=^ ^=}}\n<link rel=\"canonical\" href=\"https://other.example/\"><meta http-equiv=\"refresh\" content=\"0; url=https://other.example/\">",
     ),
     (
         "templates/6132c6f4def63039581a825fc4cbc2defe1fecdceec5e5622c0d8a03c87a0743.mustache",
@@ -162,11 +175,11 @@ const FOLDER: &[(&str, &str)] = &[
     ),
     (
         "templates/old/index.mustache",
-        "{{=^ ^=}}\n<meta http-equiv=\"refresh\" content=\"0; url=../index.html\">",
+        "{{=^ ^=}}\n<link rel=\"canonical\" href=\"../index.html\"><meta http-equiv=\"refresh\" content=\"0; url=../index.html\">",
     ),
     (
         "templates/place.mustache",
-        "{{=^ ^=}}\n<meta http-equiv=\"refresh\" content=\"0; url=/#top\">",
+        "{{=^ ^=}}\n<link rel=\"canonical\" href=\"/#top\"><meta http-equiv=\"refresh\" content=\"0; url=/#top\">",
     ),
     ("data/none.json", "{}\n"),
     (

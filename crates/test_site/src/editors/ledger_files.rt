@@ -8,7 +8,7 @@ use std::process::Abort;
 /// The file of a ledger with a release of which something is said, a text that the group has, what stood before each, and two
 /// on their way.
 const FILE: &str =
-    "published 2\neditor 4294967295\nnext 5\nlast_release 2\nreleased 31 1764057600 1\ntold 31 6\nspring\nhas 16\nput template t\nx\nwas 1 18\nremove template t\n\nwas 3 14\nremove data a\n\nwas 3 16\nput template t\nx\nsent 3 13\nput data a\n1\n\nsent 4 18\nremove template t\n\n";
+    "published 2\neditor 4294967295\nnext 5\nlast_release 2\nreleased 31 1764057600 1\ntold 31 6\nspring\nhas 16\nput template t\nx\nwas 1 18\nremove template t\n\nwas 3 14\nremove data a\n\nwas 3 16\nput template t\nx\nsent 3 13\nput data a\n1\n\nsent 4 18\nremove template t\n\nend\n";
 
 /// Other files, and what is told of each.
 const FAULTS: &[(&str, LedgerReadFault)] = &[
@@ -23,19 +23,19 @@ const FAULTS: &[(&str, LedgerReadFault)] = &[
         LedgerReadFault::Old,
     ),
     (
-        "published 2\neditor 4294967296\nnext 1\nlast_release 0\n",
+        "published 2\neditor 4294967296\nnext 1\nlast_release 0\nend\n",
         LedgerReadFault::Line(2),
     ),
     (
-        "published 2\neditor 07\nnext 1\nlast_release 0\n",
+        "published 2\neditor 07\nnext 1\nlast_release 0\nend\n",
         LedgerReadFault::Line(2),
     ),
     (
-        "published 2\neditor 7\nnext +1\nlast_release 0\n",
+        "published 2\neditor 7\nnext +1\nlast_release 0\nend\n",
         LedgerReadFault::Line(3),
     ),
     (
-        "published 2\neditor 7\nlast_release 0\nnext 1\n",
+        "published 2\neditor 7\nlast_release 0\nnext 1\nend\n",
         LedgerReadFault::Line(3),
     ),
     (
@@ -43,35 +43,52 @@ const FAULTS: &[(&str, LedgerReadFault)] = &[
         LedgerReadFault::Line(4),
     ),
     (
-        "published 2\neditor 7\nnext 1\nlast_release 0\n\n",
+        "published 2\neditor 7\nnext 1\nlast_release 0\n\nend\n",
         LedgerReadFault::Line(5),
     ),
     (
-        "published 2\neditor 7\nnext 1\nlast_release 0\r\n",
+        "published 2\neditor 7\nnext 1\nlast_release 0\r\nend\n",
         LedgerReadFault::Line(4),
     ),
     (
-        "published 2\neditor 7\nnext 2\nlast_release 0\nhas 4\nab\n",
+        "published 2\neditor 7\nnext 2\nlast_release 0\nhas 4\nab\nend\n",
         LedgerReadFault::Line(6),
     ),
     (
-        "published 2\neditor 7\nnext 2\nlast_release 0\nhas 2\nabc\n",
+        "published 2\neditor 7\nnext 2\nlast_release 0\nhas 2\nabc\nend\n",
         LedgerReadFault::Line(6),
     ),
     (
-        "published 2\neditor 7\nnext 2\nlast_release 0\nhas 1\n\u{e4}\n",
+        "published 2\neditor 7\nnext 2\nlast_release 0\nhas 1\n\u{e4}\nend\n",
         LedgerReadFault::Line(6),
     ),
     (
-        "published 2\neditor 7\nnext 2\nlast_release 0\nhas 5\na\nb\nc\nhas x\n",
+        "published 2\neditor 7\nnext 2\nlast_release 0\nhas 5\na\nb\nc\nhas x\nend\n",
         LedgerReadFault::Line(9),
     ),
     (
-        "published 2\neditor 7\nnext 2\nlast_release 0\nsent 1 1\na\nhas 1\nb\n",
+        "published 2\neditor 7\nnext 2\nlast_release 0\nsent 1 1\na\nhas 1\nb\nend\n",
         LedgerReadFault::Line(5),
     ),
     (
-        "published 2\neditor 7\nnext 2\nlast_release 0\nreleased 1 2\n",
+        "published 2\neditor 7\nnext 2\nlast_release 0\nreleased 1 2\nend\n",
+        LedgerReadFault::Line(5),
+    ),
+    // cut short after a line or an entry, or within the last line, and not ended by it
+    (
+        "published 2\neditor 7\nnext 1\nlast_release 0\n",
+        LedgerReadFault::Line(5),
+    ),
+    (
+        "published 2\neditor 7\nnext 2\nlast_release 0\nhas 1\nb\n",
+        LedgerReadFault::Line(7),
+    ),
+    (
+        "published 2\neditor 7\nnext 1\nlast_release 0\nend",
+        LedgerReadFault::Line(5),
+    ),
+    (
+        "published 2\neditor 7\nnext 1\nlast_release 0\nend\nhas 1\nb\n",
         LedgerReadFault::Line(5),
     ),
 ];

@@ -63,7 +63,8 @@ fn what_stood(rt: HostRuntime) {
 }
 
 /// A file of before, which keeps nothing of what stood: its last release alone is reached, and from then on each.
-const BEFORE: &str = "published 2\neditor 7\nnext 9\nlast_release 8\nhas 16\nput template t\nx\n";
+const BEFORE: &str =
+    "published 2\neditor 7\nnext 9\nlast_release 8\nhas 16\nput template t\nx\nend\n";
 
 fn reaches(rt: &impl Abort, ledger: &Ledger, wanted: (bool, bool)) {
     same(rt, (ledger.reaches(7), ledger.reaches(8)), wanted);

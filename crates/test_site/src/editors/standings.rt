@@ -80,16 +80,20 @@ fn nodes_that_are_behind(rt: HostRuntime) {
 
 /// The file of a ledger, the ticket whose receipt has to stand, and the last release that was shown.
 const LAST: &[(&str, u64, u64)] = &[
-    ("published 2\neditor 7\nnext 1\nlast_release 0\n", 0, 0),
-    ("published 2\neditor 7\nnext 9\nlast_release 8\n", 8, 0),
-    ("published 2\neditor 7\nnext 10\nlast_release 8\n", 9, 0),
+    ("published 2\neditor 7\nnext 1\nlast_release 0\nend\n", 0, 0),
+    ("published 2\neditor 7\nnext 9\nlast_release 8\nend\n", 8, 0),
     (
-        "published 2\neditor 7\nnext 10\nlast_release 8\nsent 9 8\nrelease\n\n",
+        "published 2\neditor 7\nnext 10\nlast_release 8\nend\n",
+        9,
+        0,
+    ),
+    (
+        "published 2\neditor 7\nnext 10\nlast_release 8\nsent 9 8\nrelease\n\nend\n",
         8,
         0,
     ),
     (
-        "published 2\neditor 7\nnext 9\nlast_release 8\nreleased 3 1700000000 5\nreleased 11 1700000009 2\n",
+        "published 2\neditor 7\nnext 9\nlast_release 8\nreleased 3 1700000000 5\nreleased 11 1700000009 2\nend\n",
         8,
         11,
     ),

@@ -1,0 +1,8 @@
+use Rattle.std.proofs.Common.{ap, ◌∙◌, codes}
+use Rattle.editor_import.specs.Refreshes.{address_behind, or_else}
+use Rattle.editor_import.proofs.refresh.refresh_of.Goals as goal
+
+pub returns-in-None : goal.returns-in-None
+returns-in-None c =
+    c.address_behind-in-None.ensures
+    ∙ ap (λ found. or_else found (address_behind (codes "<meta http-equiv=refresh content=\"0; url=") (codes "\"") c.args.page.now)) c.in-None.ensures
