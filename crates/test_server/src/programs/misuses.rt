@@ -75,7 +75,7 @@ const CLUSTER_EXAMPLE: &str =
     "  drive 2 9\n  drive 1 9\n  get 1 /_newest\n\n--version prints the program's version\n";
 
 const SITED_EXAMPLE: &str =
-    " --record /var/lib/sited/1.record --format --above 2:57 --above 3:60 --http 127.0.0.1:8001 --rounds 0 127.0.0.1:7001 127.0.0.1:7002 127.0.0.1:7003\n\nsited --inspect FILE prints what a record holds, even while a server runs over it\nsited --version prints the program's version\n";
+    " --record 1.record --format --above 2:57 --above 3:60 --http 127.0.0.1:8001 --rounds 0 127.0.0.1:7001 127.0.0.1:7002 127.0.0.1:7003\n\nsited --inspect FILE prints what a record holds, even while a server runs over it\nsited --version prints the program's version\n";
 
 fn each_helps(rt: &impl Abort, alloc: Global, words: &[String]) {
     helps(rt, alloc, render_options(alloc, words), RENDER_EXAMPLE);
