@@ -31,8 +31,14 @@ canonical page =
     or_else (address_behind (codes "<link rel=\"canonical\" href=\"") (codes "\"") page)
     (address_behind (codes "<link rel=canonical href=") (codes ">") page)
 
--- A page leads on to the address: it goes there at once, and names it as its canonical one. So a page whose
--- script or comment has such a line leads nowhere.
+-- the page has neither a comment nor a part for browsers without scripts: the addresses may stand there
+pub record IsPlain (page : List ℕ) : Type 0 where
+  pub uncommented : cut (codes "<!--") page ≡ None
+  pub for_all : cut (codes "<noscript") page ≡ None
+
+-- A page leads on to the address: it goes there at once, and names it as its canonical one. It is plain, so
+-- it says so to each browser.
 pub record LeadsOn (page address : List ℕ) : Type 0 where
+  pub plain : IsPlain page
   pub at_once : refresh page ≡ Some address
   pub named : canonical page ≡ Some address

@@ -28,13 +28,21 @@ pub struct SiteText {
     pub text: String,
 }
 
-/// What came of a generator's files: those of the folder, how many pages and redirects it has, and what was left
-/// out.
+/// A page that became a redirect: its file, and the path to which it leads on.
+#[derive(Drop)]
+pub struct LedOn {
+    pub file: String,
+    pub target: String,
+}
+
+/// What came of a generator's files: those of the folder, how many pages and redirects it has, which pages
+/// became redirects, and what was left out.
 #[derive(Drop)]
 pub struct Imported {
     pub files: Vec<SiteText>,
     pub pages: usize,
     pub redirects: usize,
+    pub led_on: Vec<LedOn>,
     pub left_out: Vec<LeftOut>,
 }
 
@@ -161,6 +169,7 @@ struct Writing {
     redirects: String,
     pages: usize,
     moved: usize,
+    led_on: Vec<LedOn>,
 }
 
 impl Writing {
@@ -214,6 +223,7 @@ impl Writing {
             if paths.contains(target.as_str())
                 && self.lead_on(page.path.as_str(), target.as_str())?
             {
+                self.led_on.push(LedOn { file, target })?;
                 return Ok(());
             }
         }
@@ -239,6 +249,7 @@ impl Writing {
             redirects,
             pages,
             moved,
+            led_on,
         } = self;
         let mut files = templates;
         files.push(SiteText {
@@ -257,6 +268,7 @@ impl Writing {
             files,
             pages,
             redirects: moved,
+            led_on,
             left_out,
         })
     }
@@ -279,6 +291,7 @@ fn folder_of(gathered: Gathering) -> Result<Imported, AllocError>
         redirects: String::new(alloc),
         pages: 0,
         moved: 0,
+        led_on: Vec::new(alloc),
     };
     writing.add_all(candidates)?;
     writing.finish(left_out)

@@ -1,5 +1,5 @@
 //! A generator's pages, read from their folder and written as the folder of a site.
-use crate::imported::{Imported, SiteText, import_of};
+use crate::imported::{Imported, LedOn, SiteText, import_of};
 use crate::left_out::{LeftOut, NotTaken};
 use editor_common::{EditorFault, say_made};
 use editor_files::{below, pages_below, write_file};
@@ -30,6 +30,15 @@ fn tell_left_out<W: Write>(
     for left in left_out {
         let (file, why) = (left.file.as_str(), left.why);
         say_made(out, format!(in alloc; "{file}: {why}"))?;
+    }
+    Ok(())
+}
+
+/// Writes a line for each page that became a redirect: what else it shows is lost.
+fn tell_led_on<W: Write>(alloc: Global, out: &mut W, led_on: &[LedOn]) -> Result<(), EditorFault> {
+    for page in led_on {
+        let (file, target) = (page.file.as_str(), page.target.as_str());
+        say_made(out, format!(in alloc; "{file}: a redirect to {target}"))?;
     }
     Ok(())
 }
@@ -105,6 +114,7 @@ pub fn import<R: Files + AllocGlobal + Clone + Drop, W: Write, E: Write>(
         return Ok(1);
     }
     write_all(rt, folder, &made.files)?;
+    tell_led_on(rt.alloc(), out, &made.led_on)?;
     tell_folder(rt.alloc(), out, folder, &made)?;
     Ok(0)
 }

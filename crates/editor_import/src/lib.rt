@@ -15,7 +15,7 @@ mod refresh;
 mod route;
 mod template;
 
-pub use imported::{Imported, SiteText, import_of};
+pub use imported::{Imported, LedOn, SiteText, import_of};
 pub use imported_page::{ImportedPage, page_of};
 pub use importing::import;
 pub use left_out::{LeftOut, NotTaken};

@@ -1,7 +1,7 @@
 //! Where a page leads on to.
-ghost use Rattle.std.specs.Prelude.{◌≡◌, ◌<◌, ℕ, List, length, option_map, MatchOption};
+ghost use Rattle.std.specs.Prelude.{◌≡◌, ◌↔◌, ◌<◌, ℕ, List, length, option_map, IsTrue, MatchOption};
 ghost use Rattle.mustache_scan.specs.Cutting.{cut};
-ghost use Rattle.editor_import.specs.Refreshes.{address_behind, refresh, canonical, LeadsOn};
+ghost use Rattle.editor_import.specs.Refreshes.{address_behind, refresh, canonical, IsPlain, LeadsOn};
 
 /// What stands before the address in a page that goes elsewhere at once, as generators write it.
 const REFRESH: &str = "<meta http-equiv=\"refresh\" content=\"0; url=";
@@ -54,11 +54,21 @@ fn canonical_of(page: &str) -> Option<&str>
     }
 }
 
+/// Whether a page has neither a comment nor a part for browsers without scripts.
+fn is_plain(page: &str) -> bool
+    ensures { IsTrue result ↔ IsPlain page.now }
+{
+    cut(page, "<!--").is_none() && cut(page, "<noscript").is_none()
+}
+
 /// The address to which a page leads on, if it does: it goes there at once, and names the same address as its
 /// canonical one.
 pub fn alias_of(page: &str) -> Option<&str>
     ensures { MatchOption result ((a : List ℕ) → ¬ (LeadsOn page.now a)) (λ a. LeadsOn page.now a.now) }
 {
+    if !is_plain(page) {
+        return None;
+    }
     let address = refresh_of(page)?;
     let canonical = canonical_of(page)?;
     if canonical == address {

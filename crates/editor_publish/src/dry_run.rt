@@ -1,8 +1,9 @@
 //! What would be published.
-use crate::comparing::{Change, changes_since, with_taken};
+use crate::comparing::{Change, changes_of, changes_since, with_taken};
 use crate::ending::Shown;
 use crate::taking_over::{Taken, plan_again, with_staying};
 use editor_common::{EditorFault, Outcome, say, say_made};
+use editor_files::lent;
 use editor_ledger::{Ledger, Sent};
 use editor_plan::{Stage, advance};
 use serde_json::{Value, json};
@@ -98,14 +99,29 @@ fn tell_planned<W: Write>(
     Ok(())
 }
 
-/// The pages that change if a ledger with nothing on its way becomes these texts.
+/// The texts of the folder's last release, if something was sent since: its readers see pages of these.
+fn released_texts(alloc: Global, ledger: &Ledger) -> Result<Option<Vec<String>>, AllocError> {
+    let last = ledger.last_release();
+    if ledger.has_unshown() && ledger.reaches(last) {
+        Ok(Some(ledger.texts_at(alloc, last)?))
+    } else {
+        Ok(None)
+    }
+}
+
+/// The pages that change if a ledger with nothing on its way becomes these texts: since the last release, if
+/// something was sent after it.
 fn changes_by(
     alloc: Global,
     ledger: &Ledger,
+    released: Option<&[String]>,
     wanted: &[&str],
     taken: Option<&Taken>,
 ) -> Result<Vec<Change>, AllocError> {
-    let changes = changes_since(alloc, ledger, wanted)?;
+    let changes = match released {
+        Some(texts) => changes_of(alloc, &lent(alloc, texts)?, wanted)?,
+        None => changes_since(alloc, ledger, wanted)?,
+    };
     match taken {
         Some(taken) => with_taken(alloc, changes, wanted, &taken.paths, &taken.left),
         None => Ok(changes),
@@ -127,18 +143,21 @@ fn tell_next<W: Write>(
     out: &mut W,
     outcome: &mut Outcome,
     ledger: &mut Ledger,
+    released: Option<&[String]>,
     wanted: &[&str],
     taken: Option<&Taken>,
 ) -> Result<bool, EditorFault> {
-    let changes = changes_by(alloc, ledger, wanted, taken)?;
+    let changes = changes_by(alloc, ledger, released, wanted, taken)?;
     let (stays, again) = kept_and_again(taken);
     let texts = with_staying(alloc, wanted, stays)?;
     plan_again(alloc, ledger, &texts, again)?;
     let stage = advance(alloc, ledger, &texts)?;
     match stage {
         Stage::Done => {
-            tell_planned(alloc, out, outcome, &[], &[])?;
-            say(out, "nothing would change")?;
+            tell_planned(alloc, out, outcome, &[], &changes)?;
+            if changes.is_empty() {
+                say(out, "nothing would change")?;
+            }
         }
         Stage::Sends => tell_planned(alloc, out, outcome, ledger.sent(), &changes)?,
     }
@@ -156,8 +175,10 @@ pub(crate) fn tell_plan<W: Write>(
     taken: Option<&Taken>,
 ) -> Result<bool, EditorFault> {
     let waits = !ledger.is_idle();
+    let released = released_texts(alloc, ledger)?;
     outcome.put(alloc, "on_their_way", heads_value(alloc, ledger.sent())?)?;
     tell_sent(alloc, out, ledger.sent())?;
     settle(ledger)?;
-    Ok(tell_next(alloc, out, outcome, ledger, wanted, taken)? || waits)
+    let released = released.as_deref();
+    Ok(tell_next(alloc, out, outcome, ledger, released, wanted, taken)? || waits)
 }

@@ -114,6 +114,14 @@ const ALIASES: &[(&str, Option<&str>)] = &[
         "<link rel=\"canonical\" href=\"/page/\"><!-- <meta http-equiv=\"refresh\" content=\"0; url=/old/\"> --><p>Hello</p>",
         None,
     ),
+    (
+        "<!-- <link rel=\"canonical\" href=\"/new/\"><meta http-equiv=\"refresh\" content=\"0; url=/new/\"> --><p>Hello</p>",
+        None,
+    ),
+    (
+        "<link rel=\"canonical\" href=\"/new/\"><noscript><meta http-equiv=\"refresh\" content=\"0; url=/new/\"></noscript><p>Hello</p>",
+        None,
+    ),
     ("<link rel=\"canonical\" href=\"/new/\"><p>Hello</p>", None),
 ];
 
@@ -192,6 +200,9 @@ const FOLDER: &[(&str, &str)] = &[
     ),
 ];
 
+/// The pages of it that became redirects.
+const LED_ON: &[(&str, &str)] = &[("alt/index.html", "/caf\u{e9}/"), ("older/index.html", "/")];
+
 /// What is left out of it.
 const LEFT_OUT: &[(&str, &str)] = &[
     (
@@ -230,10 +241,19 @@ fn leaves_out(rt: &impl Abort, alloc: Global, made: &Imported) {
     }
 }
 
+fn leads_on(rt: &impl Abort, made: &Imported) {
+    same(rt, made.led_on.len(), LED_ON.len());
+    for (page, &(file, target)) in made.led_on.iter().zip(LED_ON) {
+        same(rt, page.file.as_str(), file);
+        same(rt, page.target.as_str(), target);
+    }
+}
+
 #[test]
 fn a_folder_of_pages(rt: HostRuntime) {
     let made = taken(rt.alloc(), PUBLIC).expect(&rt, "memory");
     same(&rt, (made.pages, made.redirects), (7, 5));
+    leads_on(&rt, &made);
     has_files(&rt, &made);
     leaves_out(&rt, rt.alloc(), &made);
 }
