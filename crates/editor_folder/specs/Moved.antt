@@ -13,4 +13,5 @@ abbrev pub moved_page : List ℕ → List ℕ
 moved_page target =
     codes "<!DOCTYPE html>\n<meta charset=\"utf-8\">\n<link rel=\"canonical\" href=\""
     ++ (address_of target ++ (codes "\">\n<meta http-equiv=\"refresh\" content=\"0; url="
-    ++ (address_of target ++ (codes "\">\n<title>Moved</title>\n<p>Moved to <a href=\"" ++ (address_of target ++ (codes "\">" ++ (escaped target ++ codes "</a></p>\n")))))))
+    ++ (address_of target ++ (codes "\">\n<title>Moved</title>\n<p>Moved to <a href=\""
+    ++ (address_of target ++ (codes "\">" ++ (escaped target ++ codes "</a></p>\n")))))))

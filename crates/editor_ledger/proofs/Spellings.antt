@@ -10,7 +10,8 @@ use Rattle.command.specs.Cuts.{cut_at}
 use Rattle.editor_ledger.specs.Books.{Given, Book}
 use Rattle.editor_ledger.specs.Laws.{SpellsOne}
 use Rattle.editor_ledger.specs.Sizes.{Fits, FitsReleased, FitsText, FitsGiven, FitsBook}
-use Rattle.editor_ledger.specs.Spelling.{released_line, kept_entry, numbered_entry, sent_entry, past_entry, message_entry, last_line, spelled}
+use Rattle.editor_ledger.specs.Spelling.{released_line, kept_entry, numbered_entry, sent_entry}
+use Rattle.editor_ledger.specs.Spelling.{past_entry, message_entry, last_line, spelled}
 use Rattle.editor_ledger.specs.declared.released.Released.{Released}
 use Rattle.editor_ledger.proofs.Words.{lacks, cut_it}
 

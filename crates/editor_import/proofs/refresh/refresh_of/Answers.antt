@@ -4,5 +4,6 @@ use Rattle.editor_import.proofs.refresh.refresh_of.Goals as goal
 
 pub returns-in-None : goal.returns-in-None
 returns-in-None c =
+    let short = address_behind (codes "<meta http-equiv=refresh content=\"0; url=") (codes "\"") c.args.page.now in
     c.address_behind-in-None.ensures
-    ∙ ap (λ found. or_else found (address_behind (codes "<meta http-equiv=refresh content=\"0; url=") (codes "\"") c.args.page.now)) c.in-None.ensures
+    ∙ ap (λ found. or_else found short) c.in-None.ensures
