@@ -34,7 +34,7 @@ front_lines editor next last_release =
     ++ (codes "\nlast_release "
     ++ (decimal last_release ++ (10 ∷ []))))))
 
--- the last line, by which a file that was cut short is told from a whole one
+-- the last line: a file without it was cut short
 abbrev pub last_line : List ℕ
 last_line = codes "end\n"
 

@@ -11,7 +11,7 @@ use crate::released::Released;
 use crate::sent::Sent;
 use std::alloc::{AllocError, Global};
 
-/// The last line of the file, by which one that was cut short is told from a whole one.
+/// The last line of the file: a file without it was cut short.
 pub(crate) const LAST_LINE: &str = "end\n";
 
 fn front_lines(
