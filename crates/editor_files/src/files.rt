@@ -152,11 +152,24 @@ fn looks_of(alloc: Global, found: &Metadata) -> Result<Vec<u8>, AllocError> {
     Ok(format!(in alloc; "{size} {inode} {seconds} {nanos}")?.into_bytes())
 }
 
+/// What the system says of an entry of a folder; it gives no name that is not UTF-8.
+fn entry_fault(fault: io::Error) -> io::Error {
+    if fault.kind() == io::ErrorKind::InvalidFilename {
+        io::Error::new(
+            fault.kind(),
+            "a name in this folder is not UTF-8 (ls -b shows it): rename it",
+        )
+    } else {
+        fault
+    }
+}
+
 /// The names in a folder.
 fn list<R: Files + AllocGlobal + Clone + Drop>(rt: &R, whole: &str) -> io::Result<Vec<String>> {
     let mut names = Vec::new(rt.alloc());
     for entry in fs::read_dir(rt, whole)? {
-        names.push(String::from_str(rt.alloc(), entry?.file_name())?)?;
+        let entry = entry.map_err(entry_fault)?;
+        names.push(String::from_str(rt.alloc(), entry.file_name())?)?;
     }
     Ok(names)
 }
@@ -188,6 +201,12 @@ impl Search {
     }
 }
 
+/// The fault of a path at which a queue, a socket or a device stands: a reading might never end.
+fn not_a_file(alloc: Global, whole: &str) -> EditorFault {
+    let fault = io::Error::new(io::ErrorKind::InvalidInput, "neither a file nor a folder");
+    EditorFault::at_path(alloc, whole, fault)
+}
+
 /// What is taken of a file at a path, of which the system says that.
 fn taken_of<R: Files + AllocGlobal>(
     rt: &R,
@@ -195,6 +214,9 @@ fn taken_of<R: Files + AllocGlobal>(
     found: &Metadata,
     taking: Taking,
 ) -> Result<Vec<u8>, EditorFault> {
+    if !found.is_file() {
+        return Err(not_a_file(rt.alloc(), whole));
+    }
     match taking {
         Taking::Bytes => at(rt.alloc(), whole, fs::read(rt, whole)),
         Taking::Looks => Ok(looks_of(rt.alloc(), found)?),

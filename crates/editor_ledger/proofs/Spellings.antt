@@ -10,8 +10,8 @@ use Rattle.command.specs.Cuts.{cut_at}
 use Rattle.editor_ledger.specs.Books.{Given, Book}
 use Rattle.editor_ledger.specs.Laws.{SpellsOne}
 use Rattle.editor_ledger.specs.Sizes.{Fits, FitsReleased, FitsText, FitsGiven, FitsBook}
-use Rattle.editor_ledger.specs.Spelling.{released_line, kept_entry, numbered_entry, sent_entry}
-use Rattle.editor_ledger.specs.Spelling.{past_entry, message_entry, last_line, spelled}
+use Rattle.editor_ledger.specs.Spelling.{front_lines, released_word, released_line, kept_entry, numbered_entry, sent_entry}
+use Rattle.editor_ledger.specs.Spelling.{past_entry, message_entry, body, last_line, spelled}
 use Rattle.editor_ledger.specs.declared.released.Released.{Released}
 use Rattle.editor_ledger.proofs.Words.{lacks, cut_it}
 
@@ -61,21 +61,40 @@ newline = omega arith
 space : 10 ≤ digit_value 32
 space = omega arith
 
-same_released : (a b : Released) → a.release ≡ b.release → a.time ≡ b.time → a.commands ≡ b.commands → a ≡ b
-same_released a b release time commands =
-    ap (λ (n : ℕ). record a { release = n }) release ∙ ap (λ (n : ℕ). record b { time = n; commands = a.commands }) time ∙ ap (λ (n : ℕ). record b { commands = n }) commands
+same_released : (a b : Released) → a.exact ≡ b.exact → a.release ≡ b.release → a.time ≡ b.time → a.commands ≡ b.commands
+    → a ≡ b
+same_released a b exact release time commands =
+    ap (λ (t : Bool). record a { exact = t }) exact
+    ∙ ap (λ (n : ℕ). record a { exact = b.exact; release = n }) release
+    ∙ ap (λ (n : ℕ). record b { time = n; commands = a.commands }) time
+    ∙ ap (λ (n : ℕ). record b { commands = n }) commands
+
+-- the byte behind `released`
+ninth : List ℕ → Bool
+ninth [] = false
+ninth (x ∷ xs) = eqb x 32
+
+words_one : (p q : Bool) (xs ys : List ℕ) → released_word p ++ xs ≡ released_word q ++ ys → (p ≡ q) × (xs ≡ ys)
+words_one true true xs ys is = (refl, ap (drop 9) is)
+words_one false false xs ys is = (refl, ap (drop 12) is)
+words_one true false xs ys is = let never : true ≡ false = ap (λ t. ninth (drop 8 t)) is in absurd (cc)
+words_one false true xs ys is = let never : false ≡ true = ap (λ t. ninth (drop 8 t)) is in absurd (cc)
 
 released_one : (a b : Released) (xs ys : List ℕ) → FitsReleased a → FitsReleased b → released_line a ++ xs ≡ released_line b ++ ys → (a ≡ b) × (xs ≡ ys)
 released_one a b xs ys first second is =
     let last_a : List ℕ = decimal a.commands ++ (10 ∷ []) in
     let last_b : List ℕ = decimal b.commands ++ (10 ∷ []) in
+    let numbers_a : List ℕ = decimal a.release ++ (32 ∷ (decimal a.time ++ (32 ∷ last_a))) in
+    let numbers_b : List ℕ = decimal b.release ++ (32 ∷ (decimal b.time ++ (32 ∷ last_b))) in
+    let word = words_one a.exact b.exact (numbers_a ++ xs) (numbers_b ++ ys)
+    (sym (append_assoc (released_word a.exact) numbers_a xs) ∙ is ∙ append_assoc (released_word b.exact) numbers_b ys) in
     let release = number_then 32 a.release b.release ((decimal a.time ++ (32 ∷ last_a)) ++ xs) ((decimal b.time ++ (32 ∷ last_b)) ++ ys) space first.0 second.0
-    (sym (append_assoc (decimal a.release) (32 ∷ (decimal a.time ++ (32 ∷ last_a))) xs) ∙ ap (drop 9) is ∙ append_assoc (decimal b.release) (32 ∷ (decimal b.time ++ (32 ∷ last_b))) ys) in
+    (sym (append_assoc (decimal a.release) (32 ∷ (decimal a.time ++ (32 ∷ last_a))) xs) ∙ word.1 ∙ append_assoc (decimal b.release) (32 ∷ (decimal b.time ++ (32 ∷ last_b))) ys) in
     let time = number_then 32 a.time b.time (last_a ++ xs) (last_b ++ ys) space first.1 second.1
     (sym (append_assoc (decimal a.time) (32 ∷ last_a) xs) ∙ release.1 ∙ append_assoc (decimal b.time) (32 ∷ last_b) ys) in
     let commands = number_then 10 a.commands b.commands xs ys newline first.2 second.2
     (sym (append_assoc (decimal a.commands) (10 ∷ []) xs) ∙ time.1 ∙ append_assoc (decimal b.commands) (10 ∷ []) ys) in
-    (same_released a b release.0 time.0 commands.0, commands.1)
+    (same_released a b word.0 release.0 time.0 commands.0, commands.1)
 
 -- a text of a length that is known, and the newline behind it
 text_then : (t u xs ys : List ℕ) → length t ≡ length u → (t ++ (10 ∷ [])) ++ xs ≡ (u ++ (10 ∷ [])) ++ ys → (t ≡ u) × (xs ≡ ys)
@@ -130,7 +149,7 @@ section f P b lead one (a ∷ more) (c ∷ cs) xs ys first second absent none is
 
 -- the sections behind those of releases, of messages, of kept texts
 abbrev sent_part : Book → List ℕ
-sent_part book = flat_map sent_entry book.sent ++ last_line
+sent_part book = flat_map sent_entry book.sent ++ last_line (body book)
 
 abbrev past_part : Book → List ℕ
 past_part book = flat_map past_entry book.past ++ sent_part book
@@ -144,28 +163,44 @@ message_part book = flat_map message_entry book.messages ++ kept_part book
 abbrev log_part : Book → List ℕ
 log_part book = flat_map released_line book.log ++ message_part book
 
-no_past : (sent : List Given) → starts 119 (flat_map sent_entry sent ++ last_line) ≡ false
-no_past [] = refl
-no_past (g ∷ sent) = refl
+no_past : (text : List ℕ) (sent : List Given) → starts 119 (flat_map sent_entry sent ++ last_line text) ≡ false
+no_past text [] = refl
+no_past text (g ∷ sent) = refl
 
-no_kept : (past sent : List Given) → starts 104 (flat_map past_entry past ++ (flat_map sent_entry sent ++ last_line)) ≡ false
-no_kept [] [] = refl
-no_kept [] (g ∷ sent) = refl
-no_kept (g ∷ past) sent = refl
+no_kept : (text : List ℕ) (past sent : List Given)
+    → starts 104 (flat_map past_entry past ++ (flat_map sent_entry sent ++ last_line text)) ≡ false
+no_kept text [] [] = refl
+no_kept text [] (g ∷ sent) = refl
+no_kept text (g ∷ past) sent = refl
 
-no_message : (kept : List (List ℕ)) (past sent : List Given) → starts 116 (flat_map kept_entry kept ++ (flat_map past_entry past ++ (flat_map sent_entry sent ++ last_line))) ≡ false
-no_message [] [] [] = refl
-no_message [] [] (g ∷ sent) = refl
-no_message [] (g ∷ past) sent = refl
-no_message (t ∷ kept) past sent = refl
+no_message : (text : List ℕ) (kept : List (List ℕ)) (past sent : List Given)
+    → starts 116 (flat_map kept_entry kept ++ (flat_map past_entry past ++ (flat_map sent_entry sent ++ last_line text))) ≡ false
+no_message text [] [] [] = refl
+no_message text [] [] (g ∷ sent) = refl
+no_message text [] (g ∷ past) sent = refl
+no_message text (t ∷ kept) past sent = refl
 
-no_released : (messages : List Given) (kept : List (List ℕ)) (past sent : List Given)
-    → starts 114 (flat_map message_entry messages ++ (flat_map kept_entry kept ++ (flat_map past_entry past ++ (flat_map sent_entry sent ++ last_line)))) ≡ false
-no_released [] [] [] [] = refl
-no_released [] [] [] (g ∷ sent) = refl
-no_released [] [] (g ∷ past) sent = refl
-no_released [] (t ∷ kept) past sent = refl
-no_released (g ∷ messages) kept past sent = refl
+no_released : (text : List ℕ) (messages : List Given) (kept : List (List ℕ)) (past sent : List Given)
+    → starts 114 (flat_map message_entry messages ++ (flat_map kept_entry kept ++ (flat_map past_entry past ++ (flat_map sent_entry sent ++ last_line text)))) ≡ false
+no_released text [] [] [] [] = refl
+no_released text [] [] [] (g ∷ sent) = refl
+no_released text [] [] (g ∷ past) sent = refl
+no_released text [] (t ∷ kept) past sent = refl
+no_released text (g ∷ messages) kept past sent = refl
+
+-- a file is its front lines, and then its parts one after the other
+in_parts : (front log messages kept past sent end : List ℕ)
+    → (front ++ (log ++ (messages ++ (kept ++ (past ++ sent))))) ++ end ≡ front ++ (log ++ (messages ++ (kept ++ (past ++ (sent ++ end)))))
+in_parts front log messages kept past sent end = simp append_assoc
+
+parted : (book : Book) → spelled book ≡ front_lines book.editor book.next book.last_release ++ log_part book
+parted book = in_parts (front_lines book.editor book.next book.last_release) (flat_map released_line book.log)
+    (flat_map message_entry book.messages) (flat_map kept_entry book.kept) (flat_map past_entry book.past)
+    (flat_map sent_entry book.sent) (last_line (body book))
+
+released_first : (exact : Bool) (numbers xs : List ℕ) → starts 114 ((released_word exact ++ numbers) ++ xs) ≡ true
+released_first true numbers xs = refl
+released_first false numbers xs = refl
 
 record SameFront (book other : Book) : Type 0 where
   editor : book.editor ≡ other.editor
@@ -174,7 +209,9 @@ record SameFront (book other : Book) : Type 0 where
   rest : log_part book ≡ log_part other
 
 fronts : (book other : Book) → FitsBook book → FitsBook other → spelled book ≡ spelled other → SameFront book other
-fronts book other first second is =
+fronts book other first second spell =
+    let is : front_lines book.editor book.next book.last_release ++ log_part book
+    ≡ front_lines other.editor other.next other.last_release ++ log_part other = sym (parted book) ∙ spell ∙ parted other in
     let rest_a : List ℕ = log_part book in
     let rest_b : List ℕ = log_part other in
     let last_a : List ℕ = decimal book.last_release ++ (10 ∷ []) in
@@ -204,14 +241,15 @@ same_book book other editor next last_release log messages kept past sent =
 pub spells_one : SpellsOne
 spells_one book other first second is =
     let front = fronts book other first second is in
-    let log = section released_line FitsReleased 114 (λ a xs. refl) released_one book.log other.log (message_part book) (message_part other)
-    first.log second.log (no_released book.messages book.kept book.past book.sent) (no_released other.messages other.kept other.past other.sent) front.rest in
+    let log = section released_line FitsReleased 114 (λ a xs. released_first a.exact _ xs) released_one book.log other.log (message_part book) (message_part other)
+    first.log second.log (no_released (body book) book.messages book.kept book.past book.sent)
+    (no_released (body other) other.messages other.kept other.past other.sent) front.rest in
     let messages = section message_entry FitsGiven 116 (λ g xs. refl) (entry_one (codes "told")) book.messages other.messages (kept_part book) (kept_part other)
-    first.messages second.messages (no_message book.kept book.past book.sent) (no_message other.kept other.past other.sent) log.1 in
+    first.messages second.messages (no_message (body book) book.kept book.past book.sent) (no_message (body other) other.kept other.past other.sent) log.1 in
     let kept = section kept_entry FitsText 104 (λ t xs. refl) kept_one book.kept other.kept (past_part book) (past_part other)
-    first.kept second.kept (no_kept book.past book.sent) (no_kept other.past other.sent) messages.1 in
+    first.kept second.kept (no_kept (body book) book.past book.sent) (no_kept (body other) other.past other.sent) messages.1 in
     let past = section past_entry FitsGiven 119 (λ g xs. refl) (entry_one (codes "was")) book.past other.past (sent_part book) (sent_part other)
-    first.past second.past (no_past book.sent) (no_past other.sent) kept.1 in
-    let sent = section sent_entry FitsGiven 115 (λ g xs. refl) (entry_one (codes "sent")) book.sent other.sent last_line last_line
+    first.past second.past (no_past (body book) book.sent) (no_past (body other) other.sent) kept.1 in
+    let sent = section sent_entry FitsGiven 115 (λ g xs. refl) (entry_one (codes "sent")) book.sent other.sent (last_line (body book)) (last_line (body other))
     first.sent second.sent refl refl past.1 in
     same_book book other front.editor front.next front.last_release log.0 messages.0 kept.0 past.0 sent.0

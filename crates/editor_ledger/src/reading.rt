@@ -9,7 +9,7 @@ use crate::message::Message;
 use crate::past::Past;
 use crate::released::Released;
 use crate::sent::Sent;
-use crate::spelling::LAST_LINE;
+use crate::spelling::LAST;
 use std::alloc::Global;
 
 /// The version of the file.
@@ -95,8 +95,8 @@ impl<'a> Rest<'a> {
         ))
     }
 
-    /// The release that the numbers of the first line tell.
-    fn released(self, numbers: &str) -> Result<Released, LedgerReadFault>
+    /// The release that the numbers of the first line tell, or one up to it.
+    fn released(self, numbers: &str, exact: bool) -> Result<Released, LedgerReadFault>
         ensures { IfErr result (λ e. e ≢ LedgerReadFault.Old) }
     {
         let (release, numbers) = self.parted(numbers)?;
@@ -105,6 +105,7 @@ impl<'a> Rest<'a> {
             release: self.parsed(release)?,
             time: self.parsed(time)?,
             commands: self.parsed(commands)?,
+            exact,
         })
     }
 
@@ -128,7 +129,8 @@ impl<'a> Rest<'a> {
     {
         let (line, rest) = self.line()?;
         match self.parted(line)? {
-            ("released", numbers) => Ok((Entry::Released(self.released(numbers)?), rest)),
+            ("released", numbers) => Ok((Entry::Released(self.released(numbers, true)?), rest)),
+            ("released_by", numbers) => Ok((Entry::Released(self.released(numbers, false)?), rest)),
             ("has", length) => {
                 let (text, rest) = rest.counted(self.parsed(length)?)?;
                 Ok((Entry::Kept(text), rest))
@@ -179,7 +181,7 @@ impl Ledger {
     {
         let mut rest = behind;
         for _ in 0..behind.text.len() {
-            if rest.text == LAST_LINE {
+            if rest.text.starts_with(LAST) {
                 return Ok(());
             }
             let (entry, after) = rest.entry()?;
@@ -232,20 +234,26 @@ fn parsed(alloc: Global, text: &str) -> Result<Ledger, LedgerReadFault>
     Ok(ledger)
 }
 
-/// The number of the first line in which two texts differ.
-fn first_difference(text: &str, other: &str) -> usize {
+/// How a text differs from the one that spells what it says: in the line of that number, or by its sum.
+fn difference(text: &str, spelled: &str) -> LedgerReadFault
+    ensures { result ≢ LedgerReadFault.Old }
+{
+    let body = spelled.rsplit_once(LAST).map_or("", |(body, _)| body);
+    if text.starts_with(body) {
+        return LedgerReadFault::Sum;
+    }
     let same = text
         .as_bytes()
         .iter()
-        .zip(other.as_bytes())
+        .zip(spelled.as_bytes())
         .take_while(|(a, b)| a == b)
         .filter(|(a, _)| **a == b'\n')
         .count();
-    same.saturating_add(1)
+    LedgerReadFault::Line(same.saturating_add(1))
 }
 
 impl Ledger {
-    /// That text spells the ledger, or differs from what does in a line.
+    /// That text spells the ledger, or differs from what does: in a line, or by its sum alone.
     fn is_spelled(&self, alloc: Global, text: &str) -> Result<(), LedgerReadFault>
         ensures ok { IfOk result (λ done. spelled self.now ≡ text.now) }
         ensures err { IfErr result (λ e. e ≢ LedgerReadFault.Old) }
@@ -254,7 +262,7 @@ impl Ledger {
         if again.as_str() == text {
             Ok(())
         } else {
-            Err(LedgerReadFault::Line(first_difference(text, again.as_str())))
+            Err(difference(text, again.as_str()))
         }
     }
 

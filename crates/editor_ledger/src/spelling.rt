@@ -1,7 +1,7 @@
 //! A ledger as the text of a file.
 ghost use Rattle.std.specs.Prelude.{◌≡◌, map, IfOk, string_bytes};
 ghost use Rattle.std.specs.List.{flat_map};
-ghost use Rattle.editor_ledger.specs.Spelling.{front_lines, released_line, kept_entry, numbered_entry, sent_entry, past_entry, message_entry, spelled};
+ghost use Rattle.editor_ledger.specs.Spelling.{front_lines, released_line, kept_entry, numbered_entry, sent_entry, past_entry, message_entry, body, last_line, sum_of, spelled};
 ghost use Rattle.editor_ledger.specs.View.{given_view, past_view, message_view};
 
 use crate::ledger::Ledger;
@@ -9,10 +9,11 @@ use crate::message::Message;
 use crate::past::Past;
 use crate::released::Released;
 use crate::sent::Sent;
+use sha2::{Digest, Sha256};
 use std::alloc::{AllocError, Global};
 
-/// The last line of the file: a file without it was cut short.
-pub(crate) const LAST_LINE: &str = "end\n";
+/// How the last line begins.
+pub(crate) const LAST: &str = "end ";
 
 fn front_lines(
     alloc: Global,
@@ -32,8 +33,10 @@ fn released_line(alloc: Global, released: Released) -> Result<String, AllocError
         release,
         time,
         commands,
+        exact,
     } = released;
-    format!(in alloc; "released {release} {time} {commands}\n")
+    let word = if exact { "released" } else { "released_by" };
+    format!(in alloc; "{word} {release} {time} {commands}\n")
 }
 
 fn kept_entry(alloc: Global, text: &str) -> Result<String, AllocError>
@@ -104,10 +107,25 @@ fn message_entries(alloc: Global, messages: &[Message]) -> Result<String, AllocE
     Ok(text)
 }
 
+/// The sum of a text, as `sha256sum` prints it.
+fn sum_of(alloc: Global, text: &str) -> Result<String, AllocError>
+    ensures { IfOk result (λ sum. string_bytes sum ≡ sum_of text.now) }
+{
+    hex::encode(alloc, Sha256::digest(text.as_bytes()))
+}
+
+/// The last line of a file, after that text.
+fn last_line(alloc: Global, text: &str) -> Result<String, AllocError>
+    ensures { IfOk result (λ line. string_bytes line ≡ last_line text.now) }
+{
+    let sum = sum_of(alloc, text)?;
+    format!(in alloc; "{LAST}{sum}\n")
+}
+
 impl Ledger {
-    /// The text of a file that keeps the ledger.
-    pub fn spelled(&self, alloc: Global) -> Result<String, AllocError>
-        ensures { IfOk result (λ text. string_bytes text ≡ spelled self.now) }
+    /// What the file says, before its last line.
+    fn body(&self, alloc: Global) -> Result<String, AllocError>
+        ensures { IfOk result (λ text. string_bytes text ≡ body self.now) }
     {
         let mut text = front_lines(alloc, self.editor(), self.next(), self.last_release())?;
         text.push_str(log_lines(alloc, self.log())?.as_str())?;
@@ -115,7 +133,16 @@ impl Ledger {
         text.push_str(kept_entries(alloc, self.kept())?.as_str())?;
         text.push_str(past_entries(alloc, self.past())?.as_str())?;
         text.push_str(sent_entries(alloc, self.sent())?.as_str())?;
-        text.push_str(LAST_LINE)?;
+        Ok(text)
+    }
+
+    /// The text of a file that keeps the ledger.
+    pub fn spelled(&self, alloc: Global) -> Result<String, AllocError>
+        ensures { IfOk result (λ text. string_bytes text ≡ spelled self.now) }
+    {
+        let mut text = self.body(alloc)?;
+        let end = last_line(alloc, text.as_str())?;
+        text.push_str(end.as_str())?;
         Ok(text)
     }
 }

@@ -10,7 +10,7 @@ use crate::taking_over::{
     Taken, others_have_put, plan_again, refusal_of, taken_over, tell_left_over, tell_paths,
     tell_taken_over, with_staying,
 };
-use editor_common::{EditorFault, Outcome, say, texts_value};
+use editor_common::{EditorFault, Outcome, say, say_made, texts_value};
 use editor_files::{lent, save};
 use editor_folder::View;
 use editor_group::{Group, Look, confirm, deliver, look_at, newest};
@@ -59,7 +59,22 @@ impl<R: Files + Net<Stream = TcpStream> + Clock + AllocGlobal, E: Write> Publish
         let mut saved = save(self.rt, self.how.folder, self.ledger)?;
         let sent = deliver(self.rt, self.err, self.group, &mut saved, patience);
         drop(saved);
-        self.save().and(sent)
+        self.save_sent().and(sent)
+    }
+
+    /// Saves what came of sending. Where that fails, it says what the group may have.
+    fn save_sent(&mut self) -> Result<(), EditorFault> {
+        let saved = self.save();
+        if saved.is_err() {
+            let folder = self.how.folder;
+            say_made(
+                self.err,
+                format!(in self.rt.alloc();
+                    "{folder}: the group may have what was sent, and the file published can't be written: once it can, publish again"
+                ),
+            )?;
+        }
+        saved
     }
 
     /// The newest release of the node that is spoken to.
@@ -92,6 +107,7 @@ impl<R: Files + Net<Stream = TcpStream> + Clock + AllocGlobal, E: Write> Publish
             release: made.release,
             time,
             commands: made.commands,
+            exact: made.exact,
         })?;
         Ok(())
     }
@@ -147,7 +163,7 @@ impl<R: Files + Net<Stream = TcpStream> + Clock + AllocGlobal, E: Write> Publish
         };
         self.note(made)?;
         self.say_of(made)?;
-        self.save()?;
+        self.save_sent()?;
         Ok(made)
     }
 

@@ -1,5 +1,5 @@
 //! What is wrong with a folder.
-use editor_common::{EditorFault, Outcome, say_made};
+use editor_common::{EditorFault, Outcome, say, say_made};
 use editor_files::{Read, list_findings, read_folder, tell_findings};
 use editor_folder::{Finding, unused_of};
 use serde_json::Value;
@@ -40,6 +40,14 @@ fn tell_passed_over<E: Write>(
     )
 }
 
+/// How many pages of a folder are redirects.
+fn redirects_of(read: &Read) -> usize {
+    read.pages
+        .iter()
+        .filter(|page| page.file == "redirects")
+        .count()
+}
+
 /// Writes that a folder has no fault.
 fn tell_clean<W: Write>(
     alloc: Global,
@@ -48,11 +56,13 @@ fn tell_clean<W: Write>(
     read: &Read,
 ) -> Result<(), EditorFault> {
     let commands = read.folder.commands.len();
-    let pages = read.pages.len();
-    say_made(
-        out,
-        format!(in alloc; "{folder}: no fault; commands: {commands}, pages: {pages}"),
-    )
+    let redirects = redirects_of(read);
+    let pages = read.pages.len().saturating_sub(redirects);
+    let line = format!(in alloc; "{folder}: no fault; commands: {commands}, pages: {pages}")?;
+    if redirects == 0 {
+        return say(out, line.as_str());
+    }
+    say_made(out, format!(in alloc; "{line}, redirects: {redirects}"))
 }
 
 /// Writes that a folder has no page.
@@ -86,7 +96,10 @@ fn keep(
     list_findings(alloc, &mut findings, unused)?;
     outcome.put(alloc, "findings", Value::Array(findings))?;
     outcome.put(alloc, "commands", Value::from(read.folder.commands.len()))?;
-    outcome.put(alloc, "pages", Value::from(read.pages.len()))?;
+    let redirects = redirects_of(read);
+    let pages = read.pages.len().saturating_sub(redirects);
+    outcome.put(alloc, "pages", Value::from(pages))?;
+    outcome.put(alloc, "redirects", Value::from(redirects))?;
     outcome.put(alloc, "passed_over", Value::from(read.passed_over))
 }
 

@@ -37,7 +37,12 @@ fn tell<W: Write>(
     message: Option<&str>,
 ) -> Result<(), EditorFault> {
     let (release, commands) = (released.release, released.commands);
-    let line = format!(in alloc; "release {release}  {time}  commands: {commands}")?;
+    let near = if released.exact {
+        ""
+    } else {
+        " or one before it"
+    };
+    let line = format!(in alloc; "release {release}{near}  {time}  commands: {commands}")?;
     say(out, line.as_str())?;
     for line in message.unwrap_or("").lines() {
         let line = format!(in alloc; "    {line}")?;
@@ -62,6 +67,7 @@ fn release_value(
         "time": time,
         "seconds": released.time,
         "commands": released.commands,
+        "exact": released.exact,
         "message": said
     })
 }

@@ -1,4 +1,6 @@
 //! What came of one reading or writing on a connection.
+ghost use Rattle.std.specs.Prelude.{◌≡◌, ◌⊎◌, ◌↔◌, true};
+ghost use Rattle.std.specs.IoError.{error_kind};
 
 use std::io;
 use std::io::ErrorKind;
@@ -28,6 +30,8 @@ pub enum WriteOutcome {
 }
 
 /// Whether a call that failed only came too early, or was interrupted: it can be made again.
-pub fn is_early(e: &io::Error) -> bool {
+pub fn is_early(e: &io::Error) -> bool
+    ensures { result ≡ true ↔ (error_kind e.now ≡ ErrorKind.WouldBlock ⊎ error_kind e.now ≡ ErrorKind.Interrupted) }
+{
     matches!(e.kind(), ErrorKind::WouldBlock | ErrorKind::Interrupted)
 }

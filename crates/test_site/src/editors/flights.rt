@@ -1,6 +1,6 @@
 //! Publications into a group in memory, interrupted after each answer, and gone on with by another folder.
 use crate::comparing::{ensure, same};
-use crate::editors::ledgers::{new_file, read, save};
+use crate::editors::ledgers::{new_file, read, read_lines, save};
 use crate::editors::tickets::{Texts, has, insert, keep};
 use editor_ledger::Ledger;
 use editor_plan::{Ask, Flight, Heard, Stage, advance};
@@ -282,10 +282,10 @@ const HEARD: &[(Ask, u16, Heard)] = &[
 ];
 
 /// The file of a ledger whose release is on its way.
-const ONE_SENT: &str = "published 2\neditor 7\nnext 2\nlast_release 0\nsent 1 8\nrelease\n\nend\n";
+const ONE_SENT: &str = "published 2\neditor 7\nnext 2\nlast_release 0\nsent 1 8\nrelease\n\n";
 
 fn hears(rt: &impl Abort, alloc: Global, ask: Ask, status: u16, wanted: Heard) {
-    let mut ledger = read(rt, alloc, ONE_SENT);
+    let mut ledger = read_lines(rt, alloc, ONE_SENT);
     let heard = hear(rt, &mut Flight::new(alloc), &mut ledger, ask, status);
     ensure(rt, heard == wanted, status);
     ensure(rt, ledger.is_idle() == (wanted == Heard::Received), status);

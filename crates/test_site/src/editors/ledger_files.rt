@@ -1,6 +1,6 @@
 //! Files of ledgers: what is written, what is read back, and the faults of others.
 use crate::comparing::{ensure, same};
-use crate::editors::ledgers::{is_spelled, plan, plan_release, read, receive};
+use crate::editors::ledgers::{is_spelled, plan, plan_release, read_lines, receive, sealed};
 use editor_ledger::{Ledger, LedgerReadFault, Message, Released};
 use std::alloc::Global;
 use std::process::Abort;
@@ -8,88 +8,114 @@ use std::process::Abort;
 /// The file of a ledger with a release of which something is said, a text that the group has, what stood before each, and two
 /// on their way.
 const FILE: &str =
-    "published 2\neditor 4294967295\nnext 5\nlast_release 2\nreleased 31 1764057600 1\ntold 31 6\nspring\nhas 16\nput template t\nx\nwas 1 18\nremove template t\n\nwas 3 14\nremove data a\n\nwas 3 16\nput template t\nx\nsent 3 13\nput data a\n1\n\nsent 4 18\nremove template t\n\nend\n";
+    "published 2\neditor 4294967295\nnext 5\nlast_release 2\nreleased_by 31 1764057600 1\ntold 31 6\nspring\nhas 16\nput template t\nx\nwas 1 18\nremove template t\n\nwas 3 14\nremove data a\n\nwas 3 16\nput template t\nx\nsent 3 13\nput data a\n1\n\nsent 4 18\nremove template t\n\n";
 
-/// Other files, and what is told of each.
-const FAULTS: &[(&str, LedgerReadFault)] = &[
-    ("", LedgerReadFault::Line(1)),
-    ("published 2", LedgerReadFault::Line(1)),
+/// Lines that no ledger has, with the last line of their sum, and what is told of each.
+const LINES: &[(&str, LedgerReadFault)] = &[
     (
-        "published 1\neditor 1\nnext 1\nlast_release 0\n",
-        LedgerReadFault::Line(1),
-    ),
-    (
-        "editor 7\nnext 3\nhas 0123 put data a\n",
-        LedgerReadFault::Old,
-    ),
-    (
-        "published 2\neditor 4294967296\nnext 1\nlast_release 0\nend\n",
+        "published 2\neditor 4294967296\nnext 1\nlast_release 0\n",
         LedgerReadFault::Line(2),
     ),
     (
-        "published 2\neditor 07\nnext 1\nlast_release 0\nend\n",
+        "published 2\neditor 07\nnext 1\nlast_release 0\n",
         LedgerReadFault::Line(2),
     ),
     (
-        "published 2\neditor 7\nnext +1\nlast_release 0\nend\n",
+        "published 2\neditor 7\nnext +1\nlast_release 0\n",
         LedgerReadFault::Line(3),
     ),
     (
-        "published 2\neditor 7\nlast_release 0\nnext 1\nend\n",
+        "published 2\neditor 7\nlast_release 0\nnext 1\n",
         LedgerReadFault::Line(3),
     ),
     (
-        "published 2\neditor 7\nnext 1\nlast_release 0",
-        LedgerReadFault::Line(4),
-    ),
-    (
-        "published 2\neditor 7\nnext 1\nlast_release 0\n\nend\n",
+        "published 2\neditor 7\nnext 1\nlast_release 0\n\n",
         LedgerReadFault::Line(5),
     ),
     (
-        "published 2\neditor 7\nnext 1\nlast_release 0\r\nend\n",
+        "published 2\neditor 7\nnext 1\nlast_release 0\r\n",
         LedgerReadFault::Line(4),
     ),
     (
-        "published 2\neditor 7\nnext 2\nlast_release 0\nhas 4\nab\nend\n",
+        "published 2\neditor 7\nnext 2\nlast_release 0\nhas 4\nab\n",
         LedgerReadFault::Line(6),
     ),
     (
-        "published 2\neditor 7\nnext 2\nlast_release 0\nhas 2\nabc\nend\n",
+        "published 2\neditor 7\nnext 2\nlast_release 0\nhas 2\nabc\n",
         LedgerReadFault::Line(6),
     ),
     (
-        "published 2\neditor 7\nnext 2\nlast_release 0\nhas 1\n\u{e4}\nend\n",
+        "published 2\neditor 7\nnext 2\nlast_release 0\nhas 1\n\u{e4}\n",
         LedgerReadFault::Line(6),
     ),
     (
-        "published 2\neditor 7\nnext 2\nlast_release 0\nhas 5\na\nb\nc\nhas x\nend\n",
+        "published 2\neditor 7\nnext 2\nlast_release 0\nhas 5\na\nb\nc\nhas x\n",
         LedgerReadFault::Line(9),
     ),
     (
-        "published 2\neditor 7\nnext 2\nlast_release 0\nsent 1 1\na\nhas 1\nb\nend\n",
+        "published 2\neditor 7\nnext 2\nlast_release 0\nsent 1 1\na\nhas 1\nb\n",
         LedgerReadFault::Line(5),
     ),
     (
-        "published 2\neditor 7\nnext 2\nlast_release 0\nreleased 1 2\nend\n",
+        "published 2\neditor 7\nnext 2\nlast_release 0\nreleased 1 2\n",
         LedgerReadFault::Line(5),
     ),
-    // cut short after a line or an entry, or within the last line, and not ended by it
+];
+
+/// Whole files, and what is told of each, if anything is.
+const FILES: &[(&str, Option<LedgerReadFault>)] = &[
+    ("", Some(LedgerReadFault::Line(1))),
+    ("published 2", Some(LedgerReadFault::Line(1))),
+    (
+        "published 1\neditor 1\nnext 1\nlast_release 0\n",
+        Some(LedgerReadFault::Line(1)),
+    ),
+    (
+        "editor 7\nnext 3\nhas 0123 put data a\n",
+        Some(LedgerReadFault::Old),
+    ),
+    (
+        "published 2\neditor 7\nnext 1\nlast_release 0",
+        Some(LedgerReadFault::Line(4)),
+    ),
+    // the sum of the four lines
+    (
+        "published 2\neditor 7\nnext 1\nlast_release 0\nend b35f22f51e38d8df4a65c44dcedd2152ecb0f1cb2b6f1aaa284a29e7f1c61008\n",
+        None,
+    ),
+    // that of other ones, none, one that is cut short, one in capitals, one with a line more
+    (
+        "published 2\neditor 8\nnext 1\nlast_release 0\nend b35f22f51e38d8df4a65c44dcedd2152ecb0f1cb2b6f1aaa284a29e7f1c61008\n",
+        Some(LedgerReadFault::Sum),
+    ),
+    (
+        "published 2\neditor 7\nnext 1\nlast_release 0\nend \n",
+        Some(LedgerReadFault::Sum),
+    ),
+    (
+        "published 2\neditor 7\nnext 1\nlast_release 0\nend b35f22f51e38d8df4a65c44dcedd2152ecb0f1cb2b6f1aaa284a29e7f1c61008",
+        Some(LedgerReadFault::Sum),
+    ),
+    (
+        "published 2\neditor 7\nnext 1\nlast_release 0\nend B35F22F51E38D8DF4A65C44DCEDD2152ECB0F1CB2B6F1AAA284A29E7F1C61008\n",
+        Some(LedgerReadFault::Sum),
+    ),
+    (
+        "published 2\neditor 7\nnext 1\nlast_release 0\nend b35f22f51e38d8df4a65c44dcedd2152ecb0f1cb2b6f1aaa284a29e7f1c61008\nhas 1\nb\n",
+        Some(LedgerReadFault::Sum),
+    ),
+    // cut short after a line or an entry, or within the last line
     (
         "published 2\neditor 7\nnext 1\nlast_release 0\n",
-        LedgerReadFault::Line(5),
+        Some(LedgerReadFault::Line(5)),
     ),
     (
         "published 2\neditor 7\nnext 2\nlast_release 0\nhas 1\nb\n",
-        LedgerReadFault::Line(7),
+        Some(LedgerReadFault::Line(7)),
     ),
     (
-        "published 2\neditor 7\nnext 1\nlast_release 0\nend",
-        LedgerReadFault::Line(5),
-    ),
-    (
-        "published 2\neditor 7\nnext 1\nlast_release 0\nend\nhas 1\nb\n",
-        LedgerReadFault::Line(5),
+        "published 2\neditor 7\nnext 1\nlast_release 0\nend\n",
+        Some(LedgerReadFault::Line(5)),
     ),
 ];
 
@@ -98,6 +124,7 @@ const RELEASED: Released = Released {
     release: 31,
     time: 1_764_057_600,
     commands: 1,
+    exact: false,
 };
 
 /// A folder of one text and its release.
@@ -118,7 +145,7 @@ fn say(rt: &impl Abort, alloc: Global, ledger: &mut Ledger) {
 }
 
 fn is_read_back(rt: &impl Abort, alloc: Global, ledger: &Ledger) {
-    let again = read(rt, alloc, FILE);
+    let again = read_lines(rt, alloc, FILE);
     is_spelled(rt, alloc, &again, FILE);
     assert!(rt; again.log() == ledger.log());
 }
@@ -141,13 +168,20 @@ fn fault_of(alloc: Global, text: &str) -> Option<LedgerReadFault> {
     Ledger::read(alloc, text).err()
 }
 
+/// The fault of lines that no ledger has, with the last line of their sum.
+fn fault_of_lines(rt: &impl Abort, alloc: Global, lines: &str) -> Option<LedgerReadFault> {
+    let file = sealed(alloc, lines).expect(rt, "memory");
+    fault_of(alloc, file.as_str())
+}
+
 #[test]
 fn faults(rt: HostRuntime) {
-    for &(text, wanted) in FAULTS {
-        same(
-            &rt,
-            (text, fault_of(rt.alloc(), text)),
-            (text, Some(wanted)),
-        );
+    for &(lines, wanted) in LINES {
+        let told = fault_of_lines(&rt, rt.alloc(), lines);
+        same(&rt, (lines, told), (lines, Some(wanted)));
+    }
+    for &(file, wanted) in FILES {
+        let told = fault_of(rt.alloc(), file);
+        same(&rt, (file, told), (file, wanted));
     }
 }

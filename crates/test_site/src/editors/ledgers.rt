@@ -1,6 +1,7 @@
 //! Commands by a letter each, and ledgers told by those.
 use crate::comparing::{ensure, same};
 use editor_ledger::{Ledger, Sent};
+use sha2::{Digest, Sha256};
 use std::alloc::{AllocError, Global};
 use std::process::Abort;
 
@@ -72,12 +73,26 @@ pub fn save(rt: &impl Abort, alloc: Global, ledger: &Ledger, file: &mut String) 
     *file = spelled(rt, alloc, ledger);
 }
 
-pub fn is_spelled(rt: &impl Abort, alloc: Global, ledger: &Ledger, wanted: &str) {
-    same(rt, spelled(rt, alloc, ledger).as_str(), wanted);
+/// The file of some lines: these, and the last one with their sum.
+pub fn sealed(alloc: Global, lines: &str) -> Result<String, AllocError> {
+    let sum = hex::encode(alloc, Sha256::digest(lines.as_bytes()))?;
+    format!(in alloc; "{lines}end {sum}\n")
+}
+
+/// That a ledger is kept by these lines, and the last one.
+pub fn is_spelled(rt: &impl Abort, alloc: Global, ledger: &Ledger, lines: &str) {
+    let wanted = sealed(alloc, lines).expect(rt, "memory");
+    same(rt, spelled(rt, alloc, ledger).as_str(), wanted.as_str());
 }
 
 pub fn read(rt: &impl Abort, alloc: Global, file: &str) -> Ledger {
     Ledger::read(alloc, file).expect(rt, "a ledger")
+}
+
+/// The ledger that some lines keep, with the last one.
+pub fn read_lines(rt: &impl Abort, alloc: Global, lines: &str) -> Ledger {
+    let file = sealed(alloc, lines).expect(rt, "memory");
+    read(rt, alloc, file.as_str())
 }
 
 /// The file of an editor that has published nothing.

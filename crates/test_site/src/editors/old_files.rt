@@ -9,15 +9,15 @@ use std::process::Abort;
 const FILES: &[(&str, &str)] = &[
     (
         "editor 7\nnext 1\n",
-        "published 2\neditor 7\nnext 1\nlast_release 0\nend\n",
+        "published 2\neditor 7\nnext 1\nlast_release 0\n",
     ),
     (
         "editor 4294967295\nhas 0a1f put data a\nhas - put route /a t a\nhas - remove template old\nnext 5\n",
-        "published 2\neditor 4294967295\nnext 5\nlast_release 4\nhas 16\nput data a 0a1f\n\nhas 17\nput route /a t a\n\nhas 20\nremove template old\n\nend\n",
+        "published 2\neditor 4294967295\nnext 5\nlast_release 4\nhas 16\nput data a 0a1f\n\nhas 17\nput route /a t a\n\nhas 20\nremove template old\n\n",
     ),
     (
         "next 18446744073709551615\neditor 0",
-        "published 2\neditor 0\nnext 18446744073709551615\nlast_release 18446744073709551614\nend\n",
+        "published 2\neditor 0\nnext 18446744073709551615\nlast_release 18446744073709551614\n",
     ),
 ];
 

@@ -1,6 +1,6 @@
 //! What stood at a ticket, as a table.
 use crate::comparing::same;
-use crate::editors::ledgers::{letters_of, plan, plan_release, read, receive, save};
+use crate::editors::ledgers::{letters_of, plan, plan_release, read, read_lines, receive, save};
 use editor_ledger::Ledger;
 use std::alloc::Global;
 use std::process::Abort;
@@ -63,8 +63,7 @@ fn what_stood(rt: HostRuntime) {
 }
 
 /// A file of before, which keeps nothing of what stood: its last release alone is reached, and from then on each.
-const BEFORE: &str =
-    "published 2\neditor 7\nnext 9\nlast_release 8\nhas 16\nput template t\nx\nend\n";
+const BEFORE: &str = "published 2\neditor 7\nnext 9\nlast_release 8\nhas 16\nput template t\nx\n";
 
 fn reaches(rt: &impl Abort, ledger: &Ledger, wanted: (bool, bool)) {
     same(rt, (ledger.reaches(7), ledger.reaches(8)), wanted);
@@ -72,7 +71,7 @@ fn reaches(rt: &impl Abort, ledger: &Ledger, wanted: (bool, bool)) {
 
 #[test]
 fn a_file_of_before(rt: HostRuntime) {
-    let mut ledger = read(&rt, rt.alloc(), BEFORE);
+    let mut ledger = read_lines(&rt, rt.alloc(), BEFORE);
     reaches(&rt, &ledger, (false, true));
     publish(&rt, rt.alloc(), &mut ledger, "TA", 10);
     reaches(&rt, &ledger, (false, true));

@@ -1,6 +1,6 @@
 //! How a ledger stands to a group, by what nodes answer.
 use crate::comparing::ensure;
-use editor_ledger::Ledger;
+use crate::editors::ledgers::read_lines;
 use editor_plan::{Standing, Witness, last_shown, last_ticket, standing_of, told_by};
 use std::alloc::Global;
 use std::process::Abort;
@@ -80,27 +80,23 @@ fn nodes_that_are_behind(rt: HostRuntime) {
 
 /// The file of a ledger, the ticket whose receipt has to stand, and the last release that was shown.
 const LAST: &[(&str, u64, u64)] = &[
-    ("published 2\neditor 7\nnext 1\nlast_release 0\nend\n", 0, 0),
-    ("published 2\neditor 7\nnext 9\nlast_release 8\nend\n", 8, 0),
+    ("published 2\neditor 7\nnext 1\nlast_release 0\n", 0, 0),
+    ("published 2\neditor 7\nnext 9\nlast_release 8\n", 8, 0),
+    ("published 2\neditor 7\nnext 10\nlast_release 8\n", 9, 0),
     (
-        "published 2\neditor 7\nnext 10\nlast_release 8\nend\n",
-        9,
-        0,
-    ),
-    (
-        "published 2\neditor 7\nnext 10\nlast_release 8\nsent 9 8\nrelease\n\nend\n",
+        "published 2\neditor 7\nnext 10\nlast_release 8\nsent 9 8\nrelease\n\n",
         8,
         0,
     ),
     (
-        "published 2\neditor 7\nnext 9\nlast_release 8\nreleased 3 1700000000 5\nreleased 11 1700000009 2\nend\n",
+        "published 2\neditor 7\nnext 9\nlast_release 8\nreleased 3 1700000000 5\nreleased 11 1700000009 2\n",
         8,
         11,
     ),
 ];
 
 fn last_of(rt: &impl Abort, alloc: Global, file: &str) -> (u64, u64) {
-    let ledger = Ledger::read(alloc, file).expect(rt, "a ledger");
+    let ledger = read_lines(rt, alloc, file);
     (last_ticket(&ledger), last_shown(&ledger))
 }
 

@@ -1,53 +1,47 @@
 //! Releases that a log does not tell, as a table.
 use crate::comparing::same;
-use editor_ledger::Ledger;
+use crate::editors::ledgers::read_lines;
 use editor_plan::{ticket_of, unlogged};
 use std::alloc::Global;
 use std::process::Abort;
 
 /// The file of a ledger, and how many commands its release shows that the log does not tell.
 const FILES: &[(&str, Option<u64>)] = &[
-    ("published 2\neditor 7\nnext 1\nlast_release 0\nend\n", None),
+    ("published 2\neditor 7\nnext 1\nlast_release 0\n", None),
+    ("published 2\neditor 7\nnext 10\nlast_release 0\n", None),
+    ("published 2\neditor 7\nnext 11\nlast_release 10\n", Some(9)),
     (
-        "published 2\neditor 7\nnext 10\nlast_release 0\nend\n",
-        None,
-    ),
-    (
-        "published 2\neditor 7\nnext 11\nlast_release 10\nend\n",
-        Some(9),
-    ),
-    (
-        "published 2\neditor 7\nnext 11\nlast_release 10\nreleased 4 1700000000 9\nend\n",
+        "published 2\neditor 7\nnext 11\nlast_release 10\nreleased 4 1700000000 9\n",
         None,
     ),
     // What has no release yet is none.
     (
-        "published 2\neditor 7\nnext 14\nlast_release 10\nreleased 4 1700000000 9\nend\n",
+        "published 2\neditor 7\nnext 14\nlast_release 10\nreleased 4 1700000000 9\n",
         None,
     ),
     (
-        "published 2\neditor 7\nnext 13\nlast_release 12\nreleased 4 1700000000 9\nend\n",
+        "published 2\neditor 7\nnext 13\nlast_release 12\nreleased 4 1700000000 9\n",
         Some(1),
     ),
     (
-        "published 2\neditor 7\nnext 13\nlast_release 12\nreleased 4 1700000000 9\nreleased 6 1700000009 1\nend\n",
+        "published 2\neditor 7\nnext 13\nlast_release 12\nreleased 4 1700000000 9\nreleased 6 1700000009 1\n",
         None,
     ),
     // A log that tells more than there is.
     (
-        "published 2\neditor 7\nnext 3\nlast_release 2\nreleased 4 1700000000 18446744073709551615\nend\n",
+        "published 2\neditor 7\nnext 3\nlast_release 2\nreleased 4 1700000000 18446744073709551615\n",
         None,
     ),
 ];
 
 fn unlogged_in(rt: &impl Abort, alloc: Global, file: &str) -> Option<u64> {
-    let ledger = Ledger::read(alloc, file).expect(rt, "a ledger");
+    let ledger = read_lines(rt, alloc, file);
     unlogged(&ledger)
 }
 
 /// A log that tells four releases, two of them by one number; a release, and its ticket.
 const LOG: &str =
-    "published 2\neditor 7\nnext 40\nlast_release 30\nreleased 4 1 9\nreleased 6 2 1\nreleased 6 3 4\nreleased 9 4 2\nend\n";
+    "published 2\neditor 7\nnext 40\nlast_release 30\nreleased 4 1 9\nreleased 6 2 1\nreleased 6 3 4\nreleased 9 4 2\n";
 
 const TICKETS: &[(u64, Option<u64>)] = &[
     (0, None),
@@ -59,7 +53,7 @@ const TICKETS: &[(u64, Option<u64>)] = &[
 
 #[test]
 fn tickets_of_releases(rt: HostRuntime) {
-    let ledger = Ledger::read(rt.alloc(), LOG).expect(&rt, "a ledger");
+    let ledger = read_lines(&rt, rt.alloc(), LOG);
     for &(release, wanted) in TICKETS {
         same(&rt, ticket_of(&ledger, release), wanted);
     }
