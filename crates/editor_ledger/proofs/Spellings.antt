@@ -75,6 +75,7 @@ ninth [] = false
 ninth (x ∷ xs) = eqb x 32
 
 words_one : (p q : Bool) (xs ys : List ℕ) → released_word p ++ xs ≡ released_word q ++ ys → (p ≡ q) × (xs ≡ ys)
+unfolding ninth
 words_one true true xs ys is = (refl, ap (drop 9) is)
 words_one false false xs ys is = (refl, ap (drop 12) is)
 words_one true false xs ys is = let never : true ≡ false = ap (λ t. ninth (drop 8 t)) is in absurd (cc)
