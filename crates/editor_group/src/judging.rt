@@ -135,12 +135,12 @@ fn reason(
         }
         Standing::Elsewhere => {
             format!(in alloc;
-                "no node that answers has command {last} of editor {editor}, which is in the file published, so nothing was sent. Nodes that were down need a majority to learn what they had: see that one runs, and publish again.\nIf this is another group, or a new one, move the file away (log, restore and publish --release need it), and publish with --take-over: mv {folder}/published {folder}.published"
+                "no node that answers has command {last} of editor {editor}, which is in the file published, so nothing was sent. Nodes that were down need a majority to learn what they had: see that one runs, and publish again.\nIf this is another group, or a new one, move the file away (log, restore and publish --release need it), and publish with --take-over: mv '{folder}/published' '{folder}.published'"
             )
         }
         Standing::Returning => {
             format!(in alloc;
-                "no node that answers shows release {shown}, which this folder made, so nothing was sent: the group is still coming back, or is another one. See that a majority of its nodes runs (sitepub status), and publish again.\nIf this is another group, or a new one, move the file published away (log, restore and publish --release need it), and publish with --take-over: mv {folder}/published {folder}.published"
+                "no node that answers shows release {shown}, which this folder made, so nothing was sent: the group is still coming back, or is another one. See that a majority of its nodes runs (sitepub status), and publish again.\nIf this is another group, or a new one, move the file published away (log, restore and publish --release need it), and publish with --take-over: mv '{folder}/published' '{folder}.published'"
             )
         }
         Standing::Unanswered | Standing::Newest => {
@@ -324,10 +324,10 @@ fn tell_waiting<E: Write>(
     } = claim;
     let line = match found {
         Standing::Returning => format!(in alloc;
-            "no node that answers shows release {shown}, which is in {folder}/published: waiting {patience} seconds, as a group that comes back may. If this is another group, or a new one, stop this, and move that file away: mv {folder}/published {folder}.published"
+            "no node that answers shows release {shown}, which is in {folder}/published: waiting {patience} seconds, as a group that comes back may. If this is another group, or a new one, stop this, and move that file away: mv '{folder}/published' '{folder}.published'"
         ),
         Standing::Elsewhere => format!(in alloc;
-            "no node that answers has command {last} of editor {editor}, which is in {folder}/published: waiting {patience} seconds, as a group that comes back may. If this is another group, or a new one, stop this, and move that file away: mv {folder}/published {folder}.published"
+            "no node that answers has command {last} of editor {editor}, which is in {folder}/published: waiting {patience} seconds, as a group that comes back may. If this is another group, or a new one, stop this, and move that file away: mv '{folder}/published' '{folder}.published'"
         ),
         _ => String::from_str(alloc, "no node answers: waiting"),
     };
