@@ -201,10 +201,9 @@ impl Search {
     }
 }
 
-/// The fault of a path at which a queue, a socket or a device stands: a reading might never end.
-fn not_a_file(alloc: Global, whole: &str) -> EditorFault {
-    let fault = io::Error::new(io::ErrorKind::InvalidInput, "neither a file nor a folder");
-    EditorFault::at_path(alloc, whole, fault)
+/// Why what is no file is not read, as a queue or a device: that might never end.
+pub(crate) fn not_a_file() -> io::Error {
+    io::Error::new(io::ErrorKind::InvalidInput, "not a file")
 }
 
 /// What is taken of a file at a path, of which the system says that.
@@ -215,7 +214,7 @@ fn taken_of<R: Files + AllocGlobal>(
     taking: Taking,
 ) -> Result<Vec<u8>, EditorFault> {
     if !found.is_file() {
-        return Err(not_a_file(rt.alloc(), whole));
+        return Err(EditorFault::at_path(rt.alloc(), whole, not_a_file()));
     }
     match taking {
         Taking::Bytes => at(rt.alloc(), whole, fs::read(rt, whole)),
