@@ -26,7 +26,8 @@ enum Taking {
     Looks,
 }
 
-/// The files of a folder, in the order of their paths, and how many files and folders were passed over.
+/// The files of a folder, in the order of their paths, and how many files and folders were passed over, but
+/// for those whose names begin with a dot.
 #[derive(Drop)]
 pub(crate) struct Found {
     pub files: Vec<SiteFile>,
@@ -244,6 +245,13 @@ fn take_at<R: Files + AllocGlobal>(
     Ok(())
 }
 
+/// Whether a name begins with a dot: git's and editors' own, of which nobody wants to be told.
+fn is_hidden(path: &str) -> bool {
+    path.rsplit_once('/')
+        .map_or(path, |(_, name)| name)
+        .starts_with('.')
+}
+
 /// Takes what stands at a path below the folder.
 fn take<R: Files + AllocGlobal>(
     rt: &R,
@@ -255,7 +263,9 @@ fn take<R: Files + AllocGlobal>(
         return Ok(());
     }
     if search.wanted.passes_over(path) {
-        search.pass_over();
+        if !is_hidden(path) {
+            search.pass_over();
+        }
         return Ok(());
     }
     let whole = below(rt.alloc(), root, path)?;
