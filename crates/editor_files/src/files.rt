@@ -26,7 +26,8 @@ enum Taking {
     Looks,
 }
 
-/// The files of a folder, in the order of their paths, and how many files and folders were passed over.
+/// The files of a folder, in the order of their paths, and how many files and folders were passed over, but
+/// for those whose names begin with a dot.
 #[derive(Drop)]
 pub(crate) struct Found {
     pub files: Vec<SiteFile>,
@@ -201,10 +202,9 @@ impl Search {
     }
 }
 
-/// The fault of a path at which a queue, a socket or a device stands: a reading might never end.
-fn not_a_file(alloc: Global, whole: &str) -> EditorFault {
-    let fault = io::Error::new(io::ErrorKind::InvalidInput, "neither a file nor a folder");
-    EditorFault::at_path(alloc, whole, fault)
+/// Why what is no file is not read, as a queue or a device: that might never end.
+pub(crate) fn not_a_file() -> io::Error {
+    io::Error::new(io::ErrorKind::InvalidInput, "not a file")
 }
 
 /// What is taken of a file at a path, of which the system says that.
@@ -215,7 +215,7 @@ fn taken_of<R: Files + AllocGlobal>(
     taking: Taking,
 ) -> Result<Vec<u8>, EditorFault> {
     if !found.is_file() {
-        return Err(not_a_file(rt.alloc(), whole));
+        return Err(EditorFault::at_path(rt.alloc(), whole, not_a_file()));
     }
     match taking {
         Taking::Bytes => at(rt.alloc(), whole, fs::read(rt, whole)),
@@ -245,6 +245,13 @@ fn take_at<R: Files + AllocGlobal>(
     Ok(())
 }
 
+/// Whether a name begins with a dot: git's and editors' own, of which nobody wants to be told.
+fn is_hidden(path: &str) -> bool {
+    path.rsplit_once('/')
+        .map_or(path, |(_, name)| name)
+        .starts_with('.')
+}
+
 /// Takes what stands at a path below the folder.
 fn take<R: Files + AllocGlobal>(
     rt: &R,
@@ -256,7 +263,9 @@ fn take<R: Files + AllocGlobal>(
         return Ok(());
     }
     if search.wanted.passes_over(path) {
-        search.pass_over();
+        if !is_hidden(path) {
+            search.pass_over();
+        }
         return Ok(());
     }
     let whole = below(rt.alloc(), root, path)?;

@@ -18,7 +18,7 @@ pub struct Read {
     pub pages: Vec<Page>,
     /// What is wrong with its files, and then with its pages.
     pub findings: Vec<Finding>,
-    /// How many files and folders were passed over.
+    /// How many files and folders were passed over, but for those whose names begin with a dot.
     pub passed_over: usize,
 }
 

@@ -1,7 +1,7 @@
 //! The file `published` of a folder.
 ghost use Rattle.std.specs.Prelude.{◌≡◌, IfOk};
 
-use crate::files::{at, below};
+use crate::files::{at, below, not_a_file};
 use crate::saved::Saved;
 use editor_common::EditorFault;
 use editor_ledger::{Ledger, LedgerReadFault};
@@ -29,6 +29,14 @@ fn ledger_in(alloc: Global, path: &str, text: &str) -> Result<Ledger, EditorFaul
     }
 }
 
+fn text_at<R: Files + AllocGlobal>(rt: &R, path: &str) -> io::Result<String> {
+    if fs::metadata(rt, path)?.is_file() {
+        fs::read_to_string(rt, path)
+    } else {
+        Err(not_a_file())
+    }
+}
+
 /// Reads a folder's ledger; nothing where it has none.
 pub fn read_ledger<R: Files + AllocGlobal>(
     rt: &R,
@@ -36,7 +44,7 @@ pub fn read_ledger<R: Files + AllocGlobal>(
 ) -> Result<Option<Ledger>, EditorFault> {
     let alloc = rt.alloc();
     let path = ledger_path(alloc, folder)?;
-    let text = match fs::read_to_string(rt, path.as_str()) {
+    let text = match text_at(rt, path.as_str()) {
         Ok(text) => text,
         Err(fault) if fault.kind() == io::ErrorKind::NotFound => return Ok(None),
         Err(fault) => return Err(EditorFault::at_path(alloc, path.as_str(), fault)),

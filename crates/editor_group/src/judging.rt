@@ -241,11 +241,7 @@ fn tell_waited<E: Write>(alloc: Global, err: &mut E, all: &[Said<'_>]) -> Result
     if silent.is_empty() {
         return Ok(());
     }
-    let seconds = FIRST_ANSWERS / 1000;
-    say_made(
-        err,
-        format!(in alloc; "no answer for {seconds} seconds from{silent}"),
-    )
+    say_made(err, format!(in alloc; "no answer from{silent}"))
 }
 
 /// Tells what kept questions from being answered, the first time that nodes were asked.

@@ -123,11 +123,11 @@ fn ask_again<'a, R: Net<Stream = TcpStream> + Clock + AllocGlobal, E: Write>(
         return Ok(());
     }
     let urls = silent_urls(rt.alloc(), all)?;
-    let (had, more) = (FIRST_ANSWERS / 1000, LATER_ANSWERS / 1000);
+    let seconds = LATER_ANSWERS / 1000;
     say_made(
         err,
         format!(in rt.alloc();
-            "no answer for {had} seconds from{urls}: waiting {more} seconds more"
+            "no answer from{urls}: asking again, and waiting {seconds} seconds at most"
         ),
     )?;
     let mut later = ask_each(rt, &silent, questions, LATER_ANSWERS)?.into_iter();

@@ -85,9 +85,9 @@ pub(crate) fn tell_made<W: Write>(
     let whose = match (exact, begun) {
         (true, false) => "",
         (true, true) => " (an interrupted run had begun it)",
-        (false, false) => " or one shortly before it (another editor released as well)",
+        (false, false) => " or an earlier one (another editor released as well)",
         (false, true) => {
-            " or one before it (an interrupted run had begun it, and another editor released as well)"
+            " or an earlier one (an interrupted run had begun it, and another editor released as well)"
         }
     };
     let noun = if commands == 1 { "command" } else { "commands" };

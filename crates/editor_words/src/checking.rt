@@ -35,7 +35,7 @@ fn tell_passed_over<E: Write>(
     Ok(say_made(
         err,
         format!(in alloc;
-            "{folder}: {count} {noun} passed over: names with a dot before or a ~ behind, README, and by --ignore others"
+            "{folder}: {count} {noun} passed over: names with a ~ behind, README, and by --ignore others"
         ),
     )?)
 }

@@ -40,7 +40,7 @@ fn tell<W: Write>(
     let near = if released.exact {
         ""
     } else {
-        " or one before it"
+        " or an earlier one"
     };
     let line = format!(in alloc; "release {release}{near}  {time}  commands: {commands}")?;
     say(out, line.as_str())?;
