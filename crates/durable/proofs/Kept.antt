@@ -12,8 +12,9 @@ use Rattle.durable.specs.Raising.{IsRaised}
 use Rattle.durable.proofs.Spans.{slot_raised}
 use Rattle.durable.specs.Reading.{IsKept}
 use Rattle.durable.specs.Puts.{AreSlotsKept, AreSlotsAfter, Remembers, IsMemoryKept}
-use Rattle.durable.specs.Slots.{no_cell, cell_at, slot_at, value_at}
-use Rattle.durable.specs.declared.slots.Cell.{Cell}
+use Rattle.durable.specs.Cells.{no_cell}
+use Rattle.durable.specs.Slots.{cell_at, slot_at, value_at}
+use Rattle.durable.specs.declared.cells.Cell.{Cell}
 use Rattle.durable.specs.declared.recorded.Recorded.{Recorded}
 use Rattle.durable.specs.declared.slots.Slots.{Slots}
 use Rattle.durable.proofs.Push.{promise_kept, promise_raised, round_after-push, greatest_round-push, reach_of-push, floor_of-advance, vote_after-push, learned_at-kept, learned_at-new}

@@ -1,19 +1,15 @@
 -- What is kept of each instance.
-use Rattle.std.specs.Prelude.{ℕ, List, Option, None, IsSome, unwrap_or}
-use Rattle.std.specs.Ordering.{nat_cmp}
-use Rattle.std.specs.BTreeMap.{get}
+use Rattle.std.specs.Prelude.{ℕ, List, Option, IsSome, unwrap_or}
 use Rattle.acceptor.specs.declared.slot.Slot.{Slot}
-use Rattle.durable.specs.declared.slots.Cell.{Cell}
+use Rattle.durable.specs.declared.cells.Cell.{Cell}
+use Rattle.durable.specs.Cells.{no_cell, found_in}
 use Rattle.durable.specs.declared.slots.Slots.{Slots}
 
-abbrev pub no_slot : Slot
-no_slot = record { promised = None; vote = None }
-
-abbrev pub no_cell : Cell
-no_cell = record { slot = no_slot; learned = None }
+abbrev pub found_at : Slots → ℕ → Option Cell
+found_at slots at = found_in slots.prefix.items slots.beyond.entries at
 
 abbrev pub cell_at : Slots → ℕ → Cell
-cell_at slots at = unwrap_or (get nat_cmp slots.map at) no_cell
+cell_at slots at = unwrap_or (found_at slots at) no_cell
 
 abbrev pub slot_at : Slots → ℕ → Slot
 slot_at slots at = (cell_at slots at).slot
@@ -24,4 +20,4 @@ value_at slots at = (cell_at slots at).learned
 
 -- there is room for what is kept of the instance
 abbrev pub IsThere : Slots → ℕ → Type 0
-IsThere slots at = IsSome (get nat_cmp slots.map at)
+IsThere slots at = IsSome (found_at slots at)

@@ -4,6 +4,7 @@
 
 mod append;
 mod batch;
+mod cells;
 mod cutting;
 mod fault;
 mod formatting;

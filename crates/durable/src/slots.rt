@@ -1,4 +1,6 @@
 //! What a node has promised, voted and learned at each instance.
+//!
+//! Nearly all instances follow one another, so the cells of these are in a vector: a look-up is one index.
 
 ghost use Rattle.std.specs.Prelude.{◌≡◌, ◌≢◌, ◌↔◌, IsTrue, ◌≤◌, ◌<◌, ◌^◌, ℕ, None, Some, OnOk, IfOk, length};
 ghost use Rattle.std.specs.Prelude.{option_copied};
@@ -10,59 +12,55 @@ ghost use Rattle.durable.specs.Raising.{IsRaised};
 ghost use Rattle.durable.specs.Entries.{Voted, Learned};
 ghost use Rattle.durable.specs.Spelling.{behind_gate};
 
+use crate::cells::{Cell, empty_cell, learn_in, lengthen, promise_in, vote_in};
 use crate::spelling::{learned_behind, vote_behind};
 use acceptor::Slot;
 use site_ids::{Ballot, Instance, Value, Vote};
 use std::alloc::{AllocError, Global};
 use std::collections::BTreeMap;
 
-/// What is kept of an instance.
-#[derive(Drop)]
-pub(crate) struct Cell {
-    pub(crate) slot: Slot,
-    pub(crate) learned: Option<Value>,
-}
-
 /// The cells in which something stands, and perhaps empty ones.
 #[derive(Drop)]
 pub(crate) struct Slots {
-    map: BTreeMap<u32, Cell>,
+    /// The cells of the instances from 1 on, up to the first one that has none.
+    prefix: Vec<Cell>,
+    /// The other cells, by instance.
+    beyond: BTreeMap<u32, Cell>,
     empty: Cell,
     ghost none_promised: { empty.slot.promised ≡ None },
     ghost none_voted: { empty.slot.vote ≡ None },
     ghost none_learned: { empty.learned ≡ None },
 }
 
-fn empty_cell() -> Cell
-    ensures { result ≡ record { slot = record { promised = None; vote = None }; learned = None } }
-{
-    let slot = Slot {
-        promised: None,
-        vote: None,
-    };
-    Cell {
-        slot,
-        learned: None,
-    }
-}
-
 impl Slots {
     ghost use Rattle.acceptor.specs.Steps.{with_promise, with_vote};
-    ghost use Rattle.durable.specs.Slots.{cell_at, slot_at, value_at, no_cell, IsThere};
+    ghost use Rattle.durable.specs.Cells.{no_cell};
+    ghost use Rattle.durable.specs.Slots.{found_at, cell_at, slot_at, value_at, IsThere};
 
     pub(crate) fn new(alloc: Global) -> Slots
         ensures { (at : ℕ) → cell_at result at ≡ no_cell }
     {
         Slots {
-            map: BTreeMap::new(alloc),
+            prefix: Vec::new(alloc),
+            beyond: BTreeMap::new(alloc),
             empty: empty_cell(),
+        }
+    }
+
+    fn found(&self, at: Instance) -> Option<&Cell>
+        ensures { option_copied result ≡ found_at self.now at }
+    {
+        let number = at.number();
+        match self.prefix.get(number as usize - 1) {
+            Some(cell) => Some(cell),
+            None => self.beyond.get(&number),
         }
     }
 
     fn cell(&self, at: Instance) -> &Cell
         ensures { result.now ≡ cell_at self.now at }
     {
-        match self.map.get(&at.number()) {
+        match self.found(at) {
             Some(cell) => cell,
             None => &self.empty,
         }
@@ -87,10 +85,13 @@ impl Slots {
         ensures room { OnOk result (IsThere self.new at) }
         ensures kept { (other : ℕ) → IsThere self.old other → IsThere self.new other }
     {
-        if self.map.get(&at.number()).is_some() {
+        if self.found(at).is_some() {
             return Ok(());
         }
-        self.map.insert(at.number(), empty_cell())?;
+        if at.number() as usize == self.prefix.len() + 1 {
+            return lengthen(&mut self.prefix, &mut self.beyond);
+        }
+        self.beyond.insert(at.number(), empty_cell())?;
         Ok(())
     }
 
@@ -180,8 +181,10 @@ impl Slots {
         ensures others { (other : ℕ) → other ≢ at → cell_at self.new other ≡ cell_at self.old other }
         ensures kept { (other : ℕ) → IsThere self.old other → IsThere self.new other }
     {
-        if let Some(cell) = self.map.get_mut(&at.number()) {
-            cell.slot.promised = Some(ballot);
+        if let Some(cell) = self.prefix.get_mut(at.number() as usize - 1) {
+            promise_in(cell, ballot);
+        } else if let Some(cell) = self.beyond.get_mut(&at.number()) {
+            promise_in(cell, ballot);
         }
     }
 
@@ -191,11 +194,10 @@ impl Slots {
         ensures voted { cell_at self.new at ≡ record (cell_at self.old at) { slot = with_vote vote.ballot vote.value } }
         ensures others { (other : ℕ) → other ≢ at → cell_at self.new other ≡ cell_at self.old other }
     {
-        if let Some(cell) = self.map.get_mut(&at.number()) {
-            cell.slot = Slot {
-                promised: Some(vote.ballot),
-                vote: Some(vote),
-            };
+        if let Some(cell) = self.prefix.get_mut(at.number() as usize - 1) {
+            vote_in(cell, vote);
+        } else if let Some(cell) = self.beyond.get_mut(&at.number()) {
+            vote_in(cell, vote);
         }
     }
 
@@ -205,8 +207,10 @@ impl Slots {
         ensures learned { cell_at self.new at ≡ record (cell_at self.old at) { learned = Some value } }
         ensures others { (other : ℕ) → other ≢ at → cell_at self.new other ≡ cell_at self.old other }
     {
-        if let Some(cell) = self.map.get_mut(&at.number()) {
-            cell.learned = Some(value);
+        if let Some(cell) = self.prefix.get_mut(at.number() as usize - 1) {
+            learn_in(cell, value);
+        } else if let Some(cell) = self.beyond.get_mut(&at.number()) {
+            learn_in(cell, value);
         }
     }
 
