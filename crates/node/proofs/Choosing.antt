@@ -2,7 +2,7 @@
 use Rattle.std.proofs.Common.{◌≡◌, ◌≢◌, ◌⊎◌, inl, inr, ⊎_elim, ℕ, zero, suc, ◌+◌, ◌-◌, ◌<◌, ◌≤◌, true, false, Option, Some, None, List, [], ◌∷◌, ◌++◌, length, take, drop, append-nil, take-append-drop, refl, sym, ap, subst, ◌∙◌, arith}
 use Rattle.std.specs.Prelude.{slice_get}
 use Rattle.std.specs.Str.{bytes_eq}
-use Rattle.std.specs.Option.{option_map}
+use Rattle.std.specs.Option.{is_some, option_map}
 use Rattle.std.proofs.lemmas.List.{take_all}
 use Rattle.std.proofs.lemmas.Slice.Eq.{bytes_eq-Decides}
 use Rattle.site_ids.specs.Ids.{IsInstance}
@@ -48,6 +48,28 @@ next_found s first past i is not_mute none near at free = record {
 -- a node that is mute there takes none
 pub mute_takes_none : (s : Node) (first : ℕ) → IsFirstUnknown s.known first → IsMute s first → (i : ℕ) → ¬ IsNextFree s i
 mute_takes_none s first is mute i next = next.not_mute (subst (IsMute s) (sym (one_first s.known first next.first is next.is_first)) mute)
+
+-- nor does a node take one that has an attempt at the window's last instance
+pub full_takes_none : (s : Node) (first last : ℕ) (a : Attempt) → IsTidy s → IsFirstUnknown s.known first → last ≡ first + 63 → s.attempts last ≡ Some a → (i : ℕ) → ¬ IsNextFree s i
+full_takes_none s first last a tidy is far at i next =
+    let near = next.near in
+    let same : next.first ≡ first = one_first s.known first next.first is next.is_first in
+    let free = next.free in
+    ⊎_elim
+    (λ (e : i ≡ last). taken (s.attempts last) a (sym (subst (λ (n : ℕ). s.attempts n ≡ None) e free.untried)) at)
+    (λ (less : i < last). let b = tidy.filled last i a at free.instance free.unknown less in taken (s.attempts i) b.0 (sym free.untried) b.1)
+    (last_or_not i last (omega (arith, near, same, far)))
+  where
+    taken : (o : Option Attempt) (a : Attempt) → None ≡ o → o ≡ Some a → ⊥
+    taken o a none some = clash (none ∙ some)
+      where
+        clash : ◌≡◌ {A = Option Attempt} None (Some a) → ⊥
+        clash e = cc
+
+pub attempt_there : {X : Type 0} (f : X → Value) (own : Option X) (o : Option Attempt) → option_map f own ≡ option_map (λ a. a.own) o → is_some own ≡ true → (a : Attempt) × (o ≡ Some a)
+attempt_there f None o e is = absurd (cc)
+attempt_there f (Some x) None e is = absurd (cc)
+attempt_there f (Some x) (Some a) e is = (a, refl)
 
 -- there is no further one
 pub no_next : (s : Node) (first past : ℕ) → IsFirstUnknown s.known first → NoneFree s first past → ((j : ℕ) → IsInstance j → j < first + 64 → j < first + past) → (i : ℕ) → ¬ IsNextFree s i

@@ -1,5 +1,5 @@
 -- Tickets kept beside values that are published.
-use Rattle.std.proofs.Common.{◌≡◌, ◌⊎◌, inl, inr, ⊎_elim, ◌||◌, ℕ, suc, ◌+◌, ◌<◌, List, [], ◌∷◌, ◌++◌, length, take, get_or, Bool, true, false, cond, Option, Some, None, refl, sym, ap, subst, ◌∙◌}
+use Rattle.std.proofs.Common.{◌≡◌, ◌⊎◌, inl, inr, ⊎_elim, ◌||◌, ℕ, suc, ◌+◌, ◌<◌, List, [], ◌∷◌, ◌++◌, length, take, get_or, Bool, true, false, cond, Option, Some, None, Result, Ok, Err, refl, sym, ap, subst, ◌∙◌}
 use Rattle.std.proofs.lemmas.List.{length-append, take_more}
 use Rattle.std.specs.BTreeSet.{BTreeSet, Updates}
 use Rattle.std.specs.List.{list_any}
@@ -7,16 +7,19 @@ use Rattle.std.specs.Option.{is_some}
 use Rattle.std.specs.BTreeMap.{is_at}
 use Rattle.site_ids.specs.declared.Ticket.{Ticket}
 use Rattle.chosen_log.specs.Log.{value_at}
+use Rattle.command.specs.Action.{Order}
 use Rattle.command.specs.Effective.{is_same_ticket}
+use Rattle.command.specs.Reading.{value_reading}
+use Rattle.command.specs.declared.fault.CommandFault.{CommandFault}
 use Rattle.content.specs.Standing.{is_held}
 use Rattle.content.proofs.Tickets.{ticket_cmp, same_by_order, is_same_ticket-is, same_itself}
 use Rattle.release.specs.Receipts.{receipt_of}
-use Rattle.release.proofs.Receipts.{receipt_is_first, receipt_stays}
+use Rattle.release.proofs.Receipts.{new_receipt, receipt_is_first, receipt_stays}
 use Rattle.release.proofs.Positions.{named_by}
 use Rattle.node.specs.Knowing.{AreKnown}
 use Rattle.node.specs.Nodes.{Value, Node, BeginsKnown}
 use Rattle.node.specs.Published.{AreHeldWith}
-use Rattle.node.specs.Tickets.{HasTicket}
+use Rattle.node.specs.Tickets.{HasTicket, ticket_in, ticket_by}
 use Rattle.node.specs.declared.known.Known.{Known}
 use Rattle.node.proofs.TicketSets.{holds_by_order}
 
@@ -63,6 +66,22 @@ taken_out k old new published updates had t = by (is_same_ticket k t) refl
     by : (b : Bool) → is_same_ticket k t ≡ b → (is_held t new.keys || is_some (receipt_of t published)) ≡ (is_held t old.keys || is_some (receipt_of t published))
     by true same = rw (subst (λ x. is_some (receipt_of x published) ≡ true) (is_same_ticket-is k t same) had) (either_true (is_held t new.keys) (is_held t old.keys))
     by false apart = ap (λ b. b || is_some (receipt_of t published)) (left ∙ ap (λ b. cond b false (is_held t old.keys)) apart)
+
+-- the ticket of a command has a receipt once the command is published
+pub fed_receipt : (k : Ticket) (published : List Value) (v : Value) → ticket_in v ≡ Some k → is_some (receipt_of k (published ++ v ∷ [])) ≡ true
+fed_receipt k published v has = by (value_reading v) refl has
+  where
+    named : (o : Order) → value_reading v ≡ Ok o → (b : Bool) → is_some (receipt_of o.ticket published) ≡ b → is_some (receipt_of o.ticket (published ++ v ∷ [])) ≡ true
+    named o reads true had = some_stays o.ticket published (v ∷ []) had
+    named o reads false none =
+        ap is_some (new_receipt o.ticket published v o reads none) ∙ ap (λ b. is_some (cond b (Some (1 + length published)) (receipt_of o.ticket published))) (sym (same_by_order o.ticket o.ticket) ∙ same_itself o.ticket)
+
+    by : (r : Result Order CommandFault) → value_reading v ≡ r → ticket_by r ≡ Some k → is_some (receipt_of k (published ++ v ∷ [])) ≡ true
+    by (Ok o) reads is = subst (λ (t : Ticket). is_some (receipt_of t (published ++ v ∷ [])) ≡ true) (same o.ticket k is) (named o reads (is_some (receipt_of o.ticket published)) refl)
+      where
+        same : (a b : Ticket) → Some a ≡ Some b → a ≡ b
+        same a b e = cc
+    by (Err fault) reads is = absurd (cc)
 
 -- the values are more, and a ticket that has a receipt is taken out
 pub fed_more : (old middle new : BTreeSet Ticket) (before now more : List Value) → AreHeldWith old middle before → now ≡ before ++ more → AreHeldWith middle new now → AreHeldWith old new now

@@ -42,7 +42,8 @@ impl<D: Disk> Node<D> {
         ensures others { KeepsOthers self.old self.new }
     {
         let value = self.shared_copy(instance, value)?;
-        let ticket = self.known.learn(self.alloc, instance, value)?;
+        let read = self.queue.take_read(&value);
+        let ticket = self.known.learn(self.alloc, instance, value, read)?;
         self.learner.forget(instance);
         self.proposer.abandon(instance);
         if let Some(ticket) = ticket {

@@ -1,7 +1,7 @@
 //! What a node has published, and its answers.
 
-ghost use Rattle.std.specs.Prelude.{◌≡◌, ◌↔◌, ◌⊎◌, ◌<◌, ◌≤◌, ◌++◌, List, Some, IfOk, OnOk, OnErr, IsErrOf};
-ghost use Rattle.std.specs.Prelude.{length, take};
+ghost use Rattle.std.specs.Prelude.{◌≡◌, ◌↔◌, ◌⊎◌, ◌<◌, ◌≤◌, ◌++◌, List, Some, true, IfOk, OnOk, OnErr};
+ghost use Rattle.std.specs.Prelude.{IfSome, IsErrOf, is_some, length, take};
 ghost use Rattle.site_ids.specs.declared.TheConstants.{MAX_INSTANCE};
 ghost use Rattle.site_disk.specs.Model.{DiskState};
 ghost use Rattle.command.specs.Effective.{effective};
@@ -20,21 +20,12 @@ use site_ids::{Instance, Ticket, Value};
 use std::alloc::AllocError;
 use std::collections::{BTreeMap, BTreeSet};
 
-fn ticket_of(read: &Option<ReadValue>) -> Option<Ticket> {
-    match read {
-        Some(read) => Some(read.ticket()),
-        None => None,
-    }
-}
-
-// Takes a ticket out of a set if the releases have it.
-fn drop_published(tickets: &mut BTreeSet<Ticket>, releases: &Releases, ticket: Option<Ticket>)
-    ensures { AreHeldWith tickets.old tickets.new releases.now }
+// Takes a ticket that was published out of a set.
+fn drop_published(tickets: &mut BTreeSet<Ticket>, ticket: Option<Ticket>)
+    ensures { (published : List Bytes) → IfSome ticket (λ t. is_some (receipt_of t published) ≡ true)
+        → AreHeldWith tickets.old tickets.new published }
 {
-    let Some(ticket) = ticket else {
-        return;
-    };
-    if releases.receipt(ticket).is_some() {
+    if let Some(ticket) = ticket {
         tickets.remove(&ticket);
     }
 }
@@ -57,9 +48,8 @@ fn feed(
 {
     while let Some(value) = values.get(releases.len()) {
         let read = unpublished.remove(&(releases.len() as u32 + 1));
-        let ticket = ticket_of(&read);
-        feed_value(value, read, releases)?;
-        drop_published(tickets, releases, ticket);
+        let ticket = feed_value(value, read, releases)?;
+        drop_published(tickets, ticket);
     }
     Ok(())
 }

@@ -1,8 +1,12 @@
 //! A command of the log that was read.
 
-ghost use Rattle.std.specs.Prelude.{◌≡◌, ◌↔◌, ◌<◌, ◌++◌, [], ◌∷◌, None, Some, length, IsTrue, IfOk};
-ghost use Rattle.std.specs.Prelude.{MatchOption, OnOk, OnErr};
+ghost use Rattle.std.specs.Prelude.{◌≡◌, ◌↔◌, ◌<◌, ◌++◌, [], ◌∷◌, None, Some, Ok, true, length, IsTrue, IfOk};
+ghost use Rattle.std.specs.Prelude.{IfSome, MatchOption, OnOk, OnErr, is_some};
 ghost use Rattle.site_ids.specs.declared.TheConstants.{MAX_INSTANCE};
+ghost use Rattle.command.specs.Action.{Order};
+ghost use Rattle.command.specs.Reading.{value_reading};
+ghost use Rattle.command.specs.Standing.{StandsFor};
+ghost use Rattle.release.specs.Receipts.{receipt_of};
 ghost use Rattle.node.specs.Tickets.{ticket_in};
 
 use command::{Command, CommandFault, read};
@@ -33,6 +37,14 @@ impl Model for ReadValue {
 }
 
 impl ReadValue {
+    /// A value, and the command that it was read as.
+    pub(crate) fn of(value: Value, command: Command) -> ReadValue
+        requires { (order : Order) × (value_reading value ≡ Ok order) × StandsFor command order }
+        ensures { result ≡ value }
+    {
+        ReadValue { value, command }
+    }
+
     /// Reads a value that is a command. Any other value gives `None`.
     pub(crate) fn read(alloc: Global, value: &Value) -> Result<Option<ReadValue>, AllocError>
         ensures { IfOk result (λ read. MatchOption read (ticket_in value.now ≡ None) (λ r. r ≡ value.now)) }
@@ -47,6 +59,23 @@ impl ReadValue {
                 _ => Ok(None),
             },
         }
+    }
+
+    /// So too, but it takes what was read of the value before, if that is there.
+    pub(crate) fn read_once(
+        alloc: Global,
+        value: &Value,
+        before: Option<ReadValue>,
+    ) -> Result<Option<ReadValue>, AllocError>
+        ensures { IfOk result (λ read. MatchOption read (ticket_in value.now ≡ None) (λ r. r ≡ value.now)) }
+    {
+        if let Some(read) = before {
+            if read.is_of(value) {
+                return Ok(Some(read));
+            }
+            drop(read);
+        }
+        ReadValue::read(alloc, value)
     }
 
     pub(crate) fn ticket(&self) -> Ticket
@@ -71,22 +100,27 @@ impl ReadValue {
     }
 }
 
-/// Feeds a value. It is not read again if it was read before.
+/// Feeds a value. It is not read again if it was read before: then its ticket is returned, of which the
+/// releases have a receipt.
 pub(crate) fn feed_value(
     value: &Value,
     read: Option<ReadValue>,
     releases: &mut Releases,
-) -> Result<(), AllocError>
+) -> Result<Option<Ticket>, AllocError>
     requires { length releases.old < MAX_INSTANCE }
     ensures ok { OnOk result (releases.new ≡ releases.old ++ (value.now ∷ [])) }
     ensures err { OnErr result (releases.new ≡ releases.old) }
+    ensures receipt { IfOk result (λ ticket. IfSome ticket (λ t. is_some (receipt_of t releases.new)
+        ≡ true)) }
 {
     if let Some(read) = read {
         if read.is_of(value) {
-            return read.feed(releases);
+            let ticket = read.ticket();
+            read.feed(releases)?;
+            return Ok(Some(ticket));
         }
         drop(read);
     }
     releases.feed_value(value.try_clone()?)?;
-    Ok(())
+    Ok(None)
 }

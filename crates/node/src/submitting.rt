@@ -3,21 +3,22 @@
 ghost use Rattle.std.specs.Prelude.{◌≡◌, ◌↔◌, ◌<◌, [], Ok, IsTrue, IfOk, IfErr, IsErrOf, MatchResult};
 ghost use Rattle.command.specs.Action.{Order};
 ghost use Rattle.command.specs.Reading.{value_reading};
+ghost use Rattle.command.specs.Standing.{StandsFor};
 ghost use Rattle.node.specs.Faults.{IsUnread, IsSubmitCause};
 
 use crate::{Node, NodeFault, Submitted};
-use command::read;
+use command::{Command, read};
 use site_disk::Disk;
 use site_ids::{Ticket, Value};
 use std::alloc::Global;
 
-/// The ticket of a command that is submitted.
-fn submitted_ticket(alloc: Global, value: &Value) -> Result<Ticket, NodeFault>
-    ensures { MatchResult result (λ ticket. (order : Order) × (value_reading value.now ≡ Ok order)
-        × (ticket ≡ order.ticket)) (IsUnread value.now) }
+/// The command that is submitted.
+fn submitted(alloc: Global, value: &Value) -> Result<Command, NodeFault>
+    ensures { MatchResult result (λ command. (order : Order) × (value_reading value.now ≡ Ok order)
+        × StandsFor command order) (IsUnread value.now) }
 {
     let command = read(alloc, value.as_bytes())?;
-    Ok(command.ticket)
+    Ok(command)
 }
 
 impl<D: Disk> Node<D> {
@@ -38,14 +39,16 @@ impl<D: Disk> Node<D> {
         if self.store.is_stopped() {
             return Err(NodeFault::Stopped);
         }
-        let ticket = submitted_ticket(self.alloc, value)?;
-        if self.holds(ticket) {
+        let command = submitted(self.alloc, value)?;
+        if self.holds(command.ticket) {
+            drop(command);
             return Ok(Submitted::Already);
         }
         if self.queue.is_full() {
+            drop(command);
             return Err(NodeFault::QueueFull);
         }
-        self.queue.push(ticket, value)?;
+        self.queue.push(value, command)?;
         Ok(Submitted::Queued)
     }
 

@@ -86,6 +86,9 @@ impl<D: Disk> Node<D> {
         if self.is_mute(first) {
             return None;
         }
+        if self.is_full(first) {
+            return None;
+        }
         let mut past = 0;
         while past < WINDOW {
             let instance = Instance::new(first.number() + past)?;
@@ -95,6 +98,17 @@ impl<D: Disk> Node<D> {
             past += 1;
         }
         None
+    }
+
+    /// Whether the last instance of the window has an attempt. If so, each unknown one has.
+    fn is_full(&self, first: Instance) -> bool
+        ensures { (s : AbstractNode) → IsNodeOf self.now s → IsFirstUnknown s.known first → IsTrue result
+            → (i : ℕ) → ¬ IsNextFree s i }
+    {
+        match Instance::new(first.number() + (WINDOW - 1)) {
+            Some(last) => self.proposer.own_value(last).is_some(),
+            None => false,
+        }
     }
 
     /// How many instances from a free one on are free, without a gap, up to the window's end.

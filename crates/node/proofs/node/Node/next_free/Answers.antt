@@ -13,6 +13,9 @@ off e = cc
 pub returns-then-is_mute-clause-least : goal.returns-then-is_mute-clause-least
 returns-then-is_mute-clause-least g c s stands first = mute_takes_none s c.args.first first (so_it_is c.args.self.now c.is_mute.result (λ s. IsMute s c.args.first) c.is_mute.ensures c.if-is_mute.true s stands)
 
+pub returns-then-is_full-clause-least : goal.returns-then-is_full-clause-least
+returns-then-is_full-clause-least g c s stands first = c.is_full.ensures s stands first (is_true c.is_full.result c.if-is_full.true)
+
 pub returns-in_err-instance-clause-least : goal.returns-in_err-instance-clause-least
 returns-in_err-instance-clause-least g c s stands first =
     let l = c.loop-past in

@@ -18,9 +18,9 @@ off e = cc
 
 pub returns-then-holds-clause-answered : goal.returns-then-holds-clause-answered
 returns-then-holds-clause-answered g c s stands =
-    let o = c.in_ok-ticket.ensures in
-    let holds : HoldsTicket s c.in_ok-ticket.ticket = (c.holds.ensures s stands).0 (is_true c.holds.result c.if-holds.true) in
-    (held_by s c.args.value.now o.0 o.1).1 (subst (λ (t : Ticket). HoldsTicket s t) o.2 holds)
+    let o = c.in_ok-command.ensures in
+    let holds : HoldsTicket s c.in_ok-command.command.ticket = (c.holds.ensures s stands).0 (is_true c.holds.result c.if-holds.true) in
+    (held_by s c.args.value.now o.0 o.1).1 (subst (λ (t : Ticket). HoldsTicket s t) o.2.0 holds)
 
 pub returns-then-holds-clause-event : goal.returns-then-holds-clause-event
 returns-then-holds-clause-event g c =
@@ -28,7 +28,7 @@ returns-then-holds-clause-event g c =
     let old = c.args.self.now in
     let v : Value = c.args.value.now in
     let runs = sym c.is_stopped.ensures ∙ c.if-is_stopped.false in
-    let o = c.in_ok-ticket.ensures in
+    let o = c.in_ok-command.ensures in
     whole stands_for old _ (submission v) [] [] [] (record { me = refl; cluster = refl; releases = refl }) runs tt refl
     (λ s stands. record { effect = quiet s; does = inl ((o.0, o.1), returns-then-holds-clause-answered g c s stands, refl); handed = refl; parts = stands.parts; stays = stays_there stands_for old _ s s (record { me = refl; cluster = refl; releases = refl }) (same_store old.store old.store refl) refl refl })
 
@@ -41,7 +41,7 @@ returns-then-is_full-clause-event g c =
     let old = c.args.self.now in
     let v : Value = c.args.value.now in
     let runs = sym c.is_stopped.ensures ∙ c.if-is_stopped.false in
-    let o = c.in_ok-ticket.ensures in
+    let o = c.in_ok-command.ensures in
     refused stands_for old _ (submission v) QueueFull [] [] (record { me = refl; cluster = refl; releases = refl }) tt refl
     (λ s stands.
     let full : 64 ≤ length s.pending = (c.is_full.ensures s.pending stands.parts.pending).0 (is_true c.is_full.result c.if-is_full.true) in
@@ -49,7 +49,7 @@ returns-then-is_full-clause-event g c =
       is_up old s stands.parts runs,
       (
         (o.0, o.1),
-        unheld s v c.holds.result c.in_ok-ticket.ticket c.if-holds.false (c.holds.ensures s stands).1 (λ held. subst (λ (t : Ticket). HoldsTicket s t) (sym o.2) ((held_by s v o.0 o.1).0 held)),
+        unheld s v c.holds.result c.in_ok-command.command.ticket c.if-holds.false (c.holds.ensures s stands).1 (λ held. subst (λ (t : Ticket). HoldsTicket s t) (sym o.2.0) ((held_by s v o.0 o.1).0 held)),
         omega (arith, full, few),
       ),
     ))
@@ -58,24 +58,24 @@ returns-then-is_full-clause-event g c =
 below : (n : ℕ) → ¬ (64 ≤ n) → n < 64
 below n h = grind arith
 
-pub returns-in_err-ticket-clause-event : goal.returns-in_err-ticket-clause-event
-returns-in_err-ticket-clause-event g c =
+pub returns-in_err-command-clause-event : goal.returns-in_err-command-clause-event
+returns-in_err-command-clause-event g c =
     let old = c.args.self.now in
     let runs = sym c.is_stopped.ensures ∙ c.if-is_stopped.false in
-    not_submitted g.D.Disk.stands_for old _ c.args.value.now c.in_err-ticket.field-0.0 c.from_residual.result c.from_residual.ensures.1 runs c.in_err-ticket.ensures (record { me = refl; cluster = refl; releases = refl }) (same_store old.store old.store refl) (λ s parts. parts)
+    not_submitted g.D.Disk.stands_for old _ c.args.value.now c.in_err-command.field-0.0 c.from_residual.result c.from_residual.ensures.1 runs c.in_err-command.ensures (record { me = refl; cluster = refl; releases = refl }) (same_store old.store old.store refl) (λ s parts. parts)
 
 pub returns-clause-answered : goal.returns-clause-answered
 returns-clause-answered g c s stands =
     let v : Value = c.args.value.now in
-    let o = c.in_ok-ticket.ensures in
-    unheld s v c.holds.result c.in_ok-ticket.ticket c.if-holds.false (c.holds.ensures s stands).1 (λ held. subst (λ (t : Ticket). HoldsTicket s t) (sym o.2) ((held_by s v o.0 o.1).0 held))
+    let o = c.in_ok-command.ensures in
+    unheld s v c.holds.result c.in_ok-command.command.ticket c.if-holds.false (c.holds.ensures s stands).1 (λ held. subst (λ (t : Ticket). HoldsTicket s t) (sym o.2.0) ((held_by s v o.0 o.1).0 held))
 
 pub returns-in_err-push-clause-event : goal.returns-in_err-push-clause-event
 returns-in_err-push-clause-event g c =
     let old = c.args.self.now in
     let v : Value = c.args.value.now in
     let runs = sym c.is_stopped.ensures ∙ c.if-is_stopped.false in
-    let o = c.in_ok-ticket.ensures in
+    let o = c.in_ok-command.ensures in
     wants_memory g.D.Disk.stands_for old _ (submission v) c.from_residual-in_err-push.result [] [] (record { me = refl; cluster = refl; releases = refl }) tt refl c.from_residual-in_err-push.ensures.1
     (λ s stands.
     let parts = stands.parts in
@@ -83,7 +83,7 @@ returns-in_err-push-clause-event g c =
       is_up old s parts runs,
       inr (
         (o.0, o.1),
-        unheld s v c.holds.result c.in_ok-ticket.ticket c.if-holds.false (c.holds.ensures s stands).1 (λ held. subst (λ (t : Ticket). HoldsTicket s t) (sym o.2) ((held_by s v o.0 o.1).0 held)),
+        unheld s v c.holds.result c.in_ok-command.command.ticket c.if-holds.false (c.holds.ensures s stands).1 (λ held. subst (λ (t : Ticket). HoldsTicket s t) (sym o.2.0) ((held_by s v o.0 o.1).0 held)),
         room,
       ),
     ))
@@ -104,7 +104,7 @@ returns-clause-event g c =
     let old = c.args.self.now in
     let v : Value = c.args.value.now in
     let runs = sym c.is_stopped.ensures ∙ c.if-is_stopped.false in
-    let o = c.in_ok-ticket.ensures in
+    let o = c.in_ok-command.ensures in
     whole stands_for old _ (submission v) [] [] [] (record { me = refl; cluster = refl; releases = refl }) runs tt refl
     (λ s stands.
     let parts = stands.parts in
@@ -125,8 +125,8 @@ returns-clause-event g c =
       stays = stays_there stands_for old _ s (queued s v) (record { me = refl; cluster = refl; releases = refl }) (same_store old.store old.store refl) refl refl;
     })
 
-pub returns-in_err-ticket-clause-cause : goal.returns-in_err-ticket-clause-cause
-returns-in_err-ticket-clause-cause g c = is_cause c.args.value.now c.in_err-ticket.field-0.0 c.from_residual.result c.from_residual.ensures.1 c.in_err-ticket.ensures
+pub returns-in_err-command-clause-cause : goal.returns-in_err-command-clause-cause
+returns-in_err-command-clause-cause g c = is_cause c.args.value.now c.in_err-command.field-0.0 c.from_residual.result c.from_residual.ensures.1 c.in_err-command.ensures
 
 pub returns-then-is_stopped-clause-event : goal.returns-then-is_stopped-clause-event
 returns-then-is_stopped-clause-event g c = refused_stopped g.D.Disk.stands_for c.args.self.now (submission c.args.value.now) _ tt (sym c.is_stopped.ensures ∙ c.if-is_stopped.true)
