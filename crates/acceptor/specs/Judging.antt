@@ -4,9 +4,13 @@ use Rattle.site_ids.specs.Ids.{BallotOf, Below, NotAbove}
 use Rattle.site_ids.specs.declared.value.Vote.{Vote}
 use Rattle.acceptor.specs.declared.slot.Slot.{Slot}
 use Rattle.acceptor.specs.declared.judging.PrepareVerdict.{PrepareVerdict}
-use Rattle.acceptor.specs.declared.judging.PrepareVerdict.TheVariants.{Promise, Again as PromiseAgain, Nack as NackPrepare, Silent as SilentPrepare}
+use Rattle.acceptor.specs.declared.judging.PrepareVerdict.TheVariants.{Promise, Again as PromiseAgain}
+use Rattle.acceptor.specs.declared.judging.PrepareVerdict.TheVariants.{Nack as NackPrepare}
+use Rattle.acceptor.specs.declared.judging.PrepareVerdict.TheVariants.{Silent as SilentPrepare}
 use Rattle.acceptor.specs.declared.judging.ProposeVerdict.{ProposeVerdict}
-use Rattle.acceptor.specs.declared.judging.ProposeVerdict.TheVariants.{Vote as VoteFor, Again as AcceptAgain, Nack as NackProposal, Silent as SilentProposal}
+use Rattle.acceptor.specs.declared.judging.ProposeVerdict.TheVariants.{Vote as VoteFor, Again as AcceptAgain}
+use Rattle.acceptor.specs.declared.judging.ProposeVerdict.TheVariants.{Nack as NackProposal}
+use Rattle.acceptor.specs.declared.judging.ProposeVerdict.TheVariants.{Silent as SilentProposal}
 
 -- no promise, or one that is below the ballot
 abbrev pub IsFreeBelow : Option BallotOf → BallotOf → Type 0

@@ -37,12 +37,17 @@ IsRefused s b c = (s.promised ≡ Some c) × Below b c
 -- value is accepted again, and another value gets no answer. A prepare or a proposal below the promise is
 -- refused.
 abbrev pub Steps : Slot → Request → Slot → Answer → Type 0
-Steps s (prepare b) after (promise prior) = (prior ≡ s.vote) × ((IsFreeBelow s.promised b × (after ≡ with_promise s b)) ⊎ ((s.promised ≡ Some b) × ¬ IsVotedAt s.vote b × (after ≡ s)))
+Steps s (prepare b) after (promise prior) =
+    (prior ≡ s.vote) × ((IsFreeBelow s.promised b × (after ≡ with_promise s b))
+    ⊎ ((s.promised ≡ Some b) × ¬ IsVotedAt s.vote b × (after ≡ s)))
 Steps s (prepare b) after no_answer = (s.promised ≡ Some b) × IsVotedAt s.vote b × (after ≡ s)
 Steps s (prepare b) after (nack c) = IsRefused s b c × (after ≡ s)
 Steps s (prepare b) after accepted = ⊥
-Steps s (proposal b v) after accepted = IsFreeAt s.promised b × ((¬ IsVotedAt s.vote b × (after ≡ with_vote b v)) ⊎ (IsVotedFor s.vote b v × (after ≡ s)))
-Steps s (proposal b v) after no_answer = IsFreeAt s.promised b × IsVotedAt s.vote b × ¬ IsVotedFor s.vote b v × (after ≡ s)
+Steps s (proposal b v) after accepted =
+    IsFreeAt s.promised b
+    × ((¬ IsVotedAt s.vote b × (after ≡ with_vote b v)) ⊎ (IsVotedFor s.vote b v × (after ≡ s)))
+Steps s (proposal b v) after no_answer =
+    IsFreeAt s.promised b × IsVotedAt s.vote b × ¬ IsVotedFor s.vote b v × (after ≡ s)
 Steps s (proposal b v) after (nack c) = IsRefused s b c × (after ≡ s)
 Steps s (proposal b v) after (promise prior) = ⊥
 

@@ -1,4 +1,5 @@
-ghost use Rattle.acceptor.specs.Laws.{PrepareSteps, ProposalSteps, OnePrepareVerdict, OneProposalVerdict, OneStep, PromiseRises, VoteRises};
+ghost use Rattle.acceptor.specs.Laws.{PrepareSteps, ProposalSteps, OnePrepareVerdict, OneProposalVerdict};
+ghost use Rattle.acceptor.specs.Laws.{OneStep, PromiseRises, VoteRises};
 
 /// The verdicts lead to the acceptor's steps, and to no others.
 pub fn verdicts_are_steps()

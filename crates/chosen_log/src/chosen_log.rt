@@ -1,6 +1,7 @@
 //! The prefix is a vector, so that it can be borrowed.
 
-ghost use Rattle.std.specs.Prelude.{◌≡◌, ℕ, ◌+◌, ◌<◌, ◌≤◌, length, slice_get, None, IsSome, MatchOption, option_copied, vec_len, vec_capacity};
+ghost use Rattle.std.specs.Prelude.{◌≡◌, ℕ, ◌+◌, ◌<◌, ◌≤◌, length, slice_get, None, IsSome, MatchOption};
+ghost use Rattle.std.specs.Prelude.{option_copied, vec_len, vec_capacity};
 ghost use Rattle.std.specs.BTreeMap.{get, btree_map_len};
 ghost use Rattle.std.specs.Ordering.{nat_cmp};
 ghost use Rattle.site_ids.specs.declared.TheConstants.{MAX_INSTANCE};
@@ -98,7 +99,8 @@ impl ChosenLog {
 
     /// The first instance that is not known, if there is one.
     pub fn next_gap(&self) -> Option<Instance>
-        ensures { MatchOption result ((i : ℕ) → IsInstance i → IsSome (value_at self.now i)) (λ gap. IsGap self.now gap) }
+        ensures { MatchOption result ((i : ℕ) → IsInstance i → IsSome (value_at self.now i))
+            (λ gap. IsGap self.now gap) }
     {
         Instance::new(self.prefix.len() as u32 + 1)
     }
@@ -109,7 +111,8 @@ fn close_gap(prefix: &mut Vec<Value>, beyond: &mut BTreeMap<u32, Value>)
     requires room { vec_len prefix.old + btree_map_len beyond.old ≤ vec_capacity prefix.old }
     requires few { vec_len prefix.old ≤ MAX_INSTANCE }
     requires within { (k : ℕ) → MAX_INSTANCE < k → get nat_cmp beyond.old k ≡ None }
-    ensures same { (k : ℕ) → in_either prefix.new.items beyond.new.entries k ≡ in_either prefix.old.items beyond.old.entries k }
+    ensures same { (k : ℕ) → in_either prefix.new.items beyond.new.entries k
+        ≡ in_either prefix.old.items beyond.old.entries k }
     ensures cut { IsCut prefix.new.items beyond.new.entries }
 {
     while let Some(value) = beyond.remove(&(prefix.len() as u32 + 1)) {

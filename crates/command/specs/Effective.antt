@@ -1,5 +1,6 @@
 -- The commands of a list of values, and those that count.
-use Rattle.std.specs.Prelude.{ℕ, List, ◌==◌, ◌&&◌, not, Bool, Option, Some, None, Result, Ok, Err, map, filter, take}
+use Rattle.std.specs.Prelude.{ℕ, List, ◌==◌, ◌&&◌, not, Bool, Option, Some, None, Result, Ok, Err, map}
+use Rattle.std.specs.Prelude.{filter, take}
 use Rattle.std.specs.List.{filter_map, list_any, enumerate_from}
 use Rattle.site_ids.specs.declared.Ticket.{Ticket}
 use Rattle.command.specs.Action.{Order}

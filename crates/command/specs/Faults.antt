@@ -8,7 +8,8 @@ use Rattle.mustache_parse.specs.Tree.{tree_of}
 use Rattle.command.specs.Rows.{Row, template_row, partial_row, data_row, spelled, HasWords}
 use Rattle.command.specs.Reading.{is_name, names_in, has_paths}
 use Rattle.command.specs.declared.fault.CommandFault.{CommandFault}
-use Rattle.command.specs.declared.fault.CommandFault.TheVariants.{TooLong, Form, Name, Path, Template, Data, OutOfMemory}
+use Rattle.command.specs.declared.fault.CommandFault.TheVariants.{TooLong, Form, Name, Path, Template, Data}
+use Rattle.command.specs.declared.fault.CommandFault.TheVariants.{OutOfMemory}
 
 -- the value has a ticket's 12 bytes, and after them the row's text
 pub record IsRowOf (v : List ℕ) (row : Row) : Type 0 where
@@ -33,8 +34,11 @@ Applies v TooLong = MAX_VALUE < length v
 Applies v Form = (row : Row) → ¬ IsRowOf v row
 Applies v Name = (row : Row) × IsRowOf v row × (list_all is_name (names_in row) ≡ false)
 Applies v Path = (row : Row) × IsRowOf v row × (has_paths row ≡ false)
-Applies v (Template fault) = (row : Row) × (body : List ℕ) × IsRowOf v row × (template_in row ≡ Some body) × (tree_of body ≡ Err fault)
-Applies v (Data fault) = (row : Row) × (body : List ℕ) × IsRowOf v row × (data_in row ≡ Some body) × (data_reading body ≡ Err fault)
+Applies v (Template fault) =
+    (row : Row) × (body : List ℕ) × IsRowOf v row × (template_in row ≡ Some body) × (tree_of body ≡ Err fault)
+Applies v (Data fault) =
+    (row : Row) × (body : List ℕ) × IsRowOf v row × (data_in row ≡ Some body)
+    × (data_reading body ≡ Err fault)
 Applies v OutOfMemory = ⊥
 
 -- the number of a fault, as its line says it

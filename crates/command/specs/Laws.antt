@@ -3,7 +3,8 @@ use Rattle.std.specs.Prelude.{ℕ, suc, ◌≡◌, ◌<◌, ◌≤◌, ◌^◌, 
 use Rattle.site_ids.specs.declared.TheConstants.{TICKET_BYTES}
 use Rattle.context.specs.Whole.{Whole}
 use Rattle.site_ids.specs.declared.Ticket.{Ticket}
-use Rattle.command.specs.Action.{Kind, template, partial, page_data, route, redirect, Action, put_template, put_partial, put_data, put_route, put_redirect, Order}
+use Rattle.command.specs.Action.{Kind, template, partial, page_data, route, redirect, Action, put_template}
+use Rattle.command.specs.Action.{put_partial, put_data, put_route, put_redirect, Order}
 use Rattle.command.specs.Rows.{Row, redirect_row, remove_row, row_of, older_row_of, spelled, HasWords}
 use Rattle.command.specs.Reading.{ticket_of, value_reading}
 use Rattle.command.specs.Faults.{Applies, number}
@@ -31,7 +32,8 @@ IsOfRedirect _ = ⊥
 
 -- a text that had no row before has one only of a redirect
 abbrev pub NewRowIsOfRedirect : Type 0
-NewRowIsOfRedirect = (text : List ℕ) (row : Row) → older_row_of text ≡ None → row_of text ≡ Some row → IsOfRedirect row
+NewRowIsOfRedirect =
+    (text : List ℕ) (row : Row) → older_row_of text ≡ None → row_of text ≡ Some row → IsOfRedirect row
 
 -- the fault of a value applies to it, and no other that applies has a lower number
 abbrev pub FaultIsLeast : Type 0
@@ -40,7 +42,8 @@ FaultIsLeast = (v : List ℕ) (fault : CommandFault) → value_reading v ≡ Err
 
 -- no fault applies to a command
 abbrev pub CommandHasNone : Type 0
-CommandHasNone = (v : List ℕ) (order : Order) → value_reading v ≡ Ok order → (fault : CommandFault) → ¬ Applies v fault
+CommandHasNone =
+    (v : List ℕ) (order : Order) → value_reading v ≡ Ok order → (fault : CommandFault) → ¬ Applies v fault
 
 -- a written value has its ticket and its text
 abbrev pub WrittenHolds : Type 0
@@ -55,13 +58,19 @@ StandingIsLast = (kind : Kind) (name : List ℕ) (orders : List Order) (action :
     → (standing kind name orders ≡ Some action) ↔ IsStanding kind name orders action
 
 abbrev pub TemplateIsLast : Type 0
-TemplateIsLast = (name body : List ℕ) (orders : List Order) → (template_at name orders ≡ Some body) ↔ IsStanding template name orders (put_template name body)
+TemplateIsLast =
+    (name body : List ℕ) (orders : List Order)
+    → (template_at name orders ≡ Some body) ↔ IsStanding template name orders (put_template name body)
 
 abbrev pub PartialIsLast : Type 0
-PartialIsLast = (name body : List ℕ) (orders : List Order) → (partial_at name orders ≡ Some body) ↔ IsStanding partial name orders (put_partial name body)
+PartialIsLast =
+    (name body : List ℕ) (orders : List Order)
+    → (partial_at name orders ≡ Some body) ↔ IsStanding partial name orders (put_partial name body)
 
 abbrev pub DataIsLast : Type 0
-DataIsLast = (name : List ℕ) (whole : Whole) (orders : List Order) → (data_at name orders ≡ Some whole) ↔ IsStanding page_data name orders (put_data name whole)
+DataIsLast =
+    (name : List ℕ) (whole : Whole) (orders : List Order)
+    → (data_at name orders ≡ Some whole) ↔ IsStanding page_data name orders (put_data name whole)
 
 abbrev pub RouteIsLast : Type 0
 RouteIsLast = (path shows fills : List ℕ) (orders : List Order)
@@ -75,16 +84,22 @@ RedirectIsLast = (path target : List ℕ) (orders : List Order)
 
 -- further values only lengthen the effective list
 abbrev pub EffectiveGrows : Type 0
-EffectiveGrows = (values more : List (List ℕ)) → (rest : List Order) × (effective (values ++ more) ≡ effective values ++ rest)
+EffectiveGrows =
+    (values more : List (List ℕ))
+    → (rest : List Order) × (effective (values ++ more) ≡ effective values ++ rest)
 
 -- a release's list is the shortest prefix with that many releases
 abbrev pub ReleaseIsShortest : Type 0
-ReleaseIsShortest = (orders : List Order) (n : ℕ) → n ≤ release_count orders → IsShortest n orders (through orders n)
+ReleaseIsShortest =
+    (orders : List Order) (n : ℕ) → n ≤ release_count orders → IsShortest n orders (through orders n)
 
 -- the list of the next release begins with that of this one
 abbrev pub NextBegins : Type 0
-NextBegins = (orders : List Order) (n : ℕ) → (rest : List Order) × (through orders (suc n) ≡ through orders n ++ rest)
+NextBegins =
+    (orders : List Order) (n : ℕ) → (rest : List Order) × (through orders (suc n) ≡ through orders n ++ rest)
 
 -- a prefix that already has the release has the same list
 abbrev pub ReleaseStays : Type 0
-ReleaseStays = (orders more : List Order) (n : ℕ) → n ≤ release_count orders → through (orders ++ more) n ≡ through orders n
+ReleaseStays =
+    (orders more : List Order) (n : ℕ) → n ≤ release_count orders
+    → through (orders ++ more) n ≡ through orders n

@@ -1,5 +1,6 @@
 -- Which values are commands, and the fault of every other.
-use Rattle.std.specs.Prelude.{◌≡◌, ◌≢◌, ℕ, List, [], ◌∷◌, length, drop, codes, nat_eq, nat_le, ◌==◌, ◌&&◌, ◌||◌, not, if◌then◌else◌, Bool, true, Option, None, Result, Ok, Err, ok_or}
+use Rattle.std.specs.Prelude.{◌≡◌, ◌≢◌, ℕ, List, [], ◌∷◌, length, drop, codes, nat_eq, nat_le, ◌==◌, ◌&&◌}
+use Rattle.std.specs.Prelude.{◌||◌, not, if◌then◌else◌, Bool, true, Option, None, Result, Ok, Err, ok_or}
 use Rattle.std.specs.List.{list_all, starts_with}
 use Rattle.std.specs.Str.{is_utf8}
 use Rattle.site_ids.specs.declared.TheConstants.{MAX_VALUE, MAX_NAME, MAX_PATH, TICKET_BYTES}
@@ -9,8 +10,10 @@ use Rattle.context.specs.Whole.{Whole, data_reading}
 use Rattle.context.specs.declared.fault.DataFault.{DataFault}
 use Rattle.mustache_scan.specs.declared.fault.TemplateFault.{TemplateFault}
 use Rattle.mustache_parse.specs.Tree.{Tree, tree_of}
-use Rattle.command.specs.Action.{Kind, template, partial, page_data, route, redirect, Action, put_template, put_partial, put_data, put_route, put_redirect, remove, release, Order}
-use Rattle.command.specs.Rows.{Row, template_row, partial_row, data_row, route_row, redirect_row, remove_row, release_row, row_of}
+use Rattle.command.specs.Action.{Kind, template, partial, page_data, route, redirect, Action, put_template}
+use Rattle.command.specs.Action.{put_partial, put_data, put_route, put_redirect, remove, release, Order}
+use Rattle.command.specs.Rows.{Row, template_row, partial_row, data_row, route_row, redirect_row, remove_row}
+use Rattle.command.specs.Rows.{release_row, row_of}
 use Rattle.command.specs.declared.fault.CommandFault.{CommandFault}
 use Rattle.command.specs.declared.fault.CommandFault.TheVariants.{TooLong, Form, Name, Path, Template, Data}
 
@@ -116,7 +119,9 @@ wrong_remove redirect = Path
 
 -- the row of a value's text, which follows the 12 bytes of its ticket
 abbrev pub text_row : List ℕ → Option Row
-text_row v = if nat_le TICKET_BYTES (length v) && is_utf8 (drop TICKET_BYTES v) then row_of (drop TICKET_BYTES v) else None
+text_row v =
+    if nat_le TICKET_BYTES (length v)
+    && is_utf8 (drop TICKET_BYTES v) then row_of (drop TICKET_BYTES v) else None
 
 abbrev pub value_row : List ℕ → Result Row CommandFault
 value_row v = if nat_le (length v) MAX_VALUE then ok_or (text_row v) Form else Err TooLong

@@ -1,5 +1,6 @@
 -- The table of commands: how a text spells each row.
-use Rattle.std.specs.Prelude.{ℕ, List, [], ◌∷◌, ◌++◌, length, codes, ◌==◌, ◌&&◌, not, if◌then◌else◌, Bool, IsTrue, Option, Some, None, option_map, option_and_then, ⊤}
+use Rattle.std.specs.Prelude.{ℕ, List, [], ◌∷◌, ◌++◌, length, codes, ◌==◌, ◌&&◌, not, if◌then◌else◌, Bool}
+use Rattle.std.specs.Prelude.{IsTrue, Option, Some, None, option_map, option_and_then, ⊤}
 use Rattle.std.specs.List.{list_all}
 use Rattle.std.specs.Str.{bytes_eq}
 use Rattle.command.specs.Action.{Kind, template, partial, page_data, route, redirect}
@@ -27,7 +28,8 @@ abbrev pub spelled : Row → List ℕ
 spelled (template_row name body) = codes "put template " ++ (name ++ (10 ∷ body))
 spelled (partial_row name body) = codes "put partial " ++ (name ++ (10 ∷ body))
 spelled (data_row name body) = codes "put data " ++ (name ++ (10 ∷ body))
-spelled (route_row path shows fills) = codes "put route " ++ (path ++ (32 ∷ (shows ++ (32 ∷ (fills ++ (10 ∷ []))))))
+spelled (route_row path shows fills) =
+    codes "put route " ++ (path ++ (32 ∷ (shows ++ (32 ∷ (fills ++ (10 ∷ []))))))
 spelled (redirect_row path target) = codes "put redirect " ++ (path ++ (32 ∷ (target ++ (10 ∷ []))))
 spelled (remove_row kind name) = codes "remove " ++ (kind_word kind ++ (32 ∷ (name ++ (10 ∷ []))))
 spelled release_row = codes "release\n"
@@ -67,11 +69,13 @@ abbrev pub if_bare : Kind → List ℕ × List ℕ → Option Row
 if_bare kind p = if is_empty p.1 then Some (remove_row kind p.0) else None
 
 abbrev pub remove_of : Kind → List ℕ → Option Row
-remove_of kind text = option_and_then (if_bare kind) (named (codes "remove " ++ (kind_word kind ++ (32 ∷ []))) text)
+remove_of kind text =
+    option_and_then (if_bare kind) (named (codes "remove " ++ (kind_word kind ++ (32 ∷ []))) text)
 
 abbrev pub if_route : List ℕ → List ℕ → List ℕ × List ℕ → Option Row
 if_route path shows p =
-    if is_word path && (is_word shows && (is_word p.0 && is_empty p.1)) then Some (route_row path shows p.0) else None
+    if is_word path && (is_word shows && (is_word p.0 && is_empty p.1)) then Some
+    (route_row path shows p.0) else None
 
 abbrev pub names_of : List ℕ → List ℕ × List ℕ → Option Row
 names_of path p = option_and_then (if_route path p.0) (cut_at 10 p.1)
@@ -83,13 +87,15 @@ abbrev pub route_of : List ℕ → Option Row
 route_of text = option_and_then path_of (option_and_then (cut_at 32) (after_front (codes "put route ") text))
 
 abbrev pub if_redirect : List ℕ → List ℕ × List ℕ → Option Row
-if_redirect path p = if is_word path && (is_word p.0 && is_empty p.1) then Some (redirect_row path p.0) else None
+if_redirect path p =
+    if is_word path && (is_word p.0 && is_empty p.1) then Some (redirect_row path p.0) else None
 
 abbrev pub target_of : List ℕ × List ℕ → Option Row
 target_of p = option_and_then (if_redirect p.0) (cut_at 10 p.1)
 
 abbrev pub redirect_of : List ℕ → Option Row
-redirect_of text = option_and_then target_of (option_and_then (cut_at 32) (after_front (codes "put redirect ") text))
+redirect_of text =
+    option_and_then target_of (option_and_then (cut_at 32) (after_front (codes "put redirect ") text))
 
 abbrev pub first_of : List (Option Row) → Option Row
 first_of [] = None

@@ -1,8 +1,10 @@
 -- The site that a list of commands leaves.
-use Rattle.std.specs.Prelude.{ℕ, ◌≡◌, ◌<◌, List, [], ◌∷◌, ◌&&◌, if◌then◌else◌, Bool, true, false, IsTrue, Option, Some, None, option_and_then, slice_get}
+use Rattle.std.specs.Prelude.{ℕ, ◌≡◌, ◌<◌, List, [], ◌∷◌, ◌&&◌, if◌then◌else◌, Bool, true, false, IsTrue}
+use Rattle.std.specs.Prelude.{Option, Some, None, option_and_then, slice_get}
 use Rattle.std.specs.Str.{bytes_eq}
 use Rattle.context.specs.Whole.{Whole}
-use Rattle.command.specs.Action.{Kind, template, partial, page_data, route, redirect, Action, put_template, put_partial, put_data, put_route, put_redirect, remove, release, Order}
+use Rattle.command.specs.Action.{Kind, template, partial, page_data, route, redirect, Action, put_template}
+use Rattle.command.specs.Action.{put_partial, put_data, put_route, put_redirect, remove, release, Order}
 
 abbrev pub is_same_kind : Kind → Kind → Bool
 is_same_kind template template = true
@@ -34,7 +36,8 @@ first_or (Some action) other = Some action
 -- the last action about that kind and name
 abbrev pub last_about : Kind → List ℕ → List Order → Option Action
 last_about kind name [] = None
-last_about kind name (o ∷ later) = first_or (last_about kind name later) (if is_about kind name o.action then Some o.action else None)
+last_about kind name (o ∷ later) =
+    first_or (last_about kind name later) (if is_about kind name o.action then Some o.action else None)
 
 abbrev pub if_put : Action → Option Action
 if_put action = if is_put action then Some action else None
@@ -51,7 +54,8 @@ pub record IsStanding (kind : Kind) (name : List ℕ) (orders : List Order) (act
   pub does : order.action ≡ action
   pub touched : IsTrue (is_about kind name action)
   pub puts : IsTrue (is_put action)
-  pub last : (j : ℕ) (later : Order) → place < j → slice_get orders j ≡ Some later → is_about kind name later.action ≡ false
+  pub last : (j : ℕ) (later : Order) → place < j → slice_get orders j ≡ Some later
+      → is_about kind name later.action ≡ false
 
 -- ---- what is in force at a name, by its kind
 

@@ -2,18 +2,21 @@
 use Rattle.std.specs.Prelude.{◌≡◌, Result, Ok, string_bytes, ⊤}
 use Rattle.context.specs.View.{data_view}
 use Rattle.mustache_parse.specs.Template.{IsTemplateOf}
-use Rattle.command.specs.Action.{Action, put_template, put_partial, put_data, put_route, put_redirect, remove, release, Order}
+use Rattle.command.specs.Action.{Action, put_template, put_partial, put_data, put_route, put_redirect, remove}
+use Rattle.command.specs.Action.{release, Order}
 use Rattle.command.specs.View.{kind_view}
 use Rattle.command.specs.declared.commands.Command.{Command}
 use Rattle.command.specs.declared.commands.Action.{Action as CodeAction}
-use Rattle.command.specs.declared.commands.Action.TheVariants.{PutTemplate, PutPartial, PutData, PutRoute, PutRedirect, Remove, Release}
+use Rattle.command.specs.declared.commands.Action.TheVariants.{PutTemplate, PutPartial, PutData, PutRoute}
+use Rattle.command.specs.declared.commands.Action.TheVariants.{PutRedirect, Remove, Release}
 use Rattle.command.specs.declared.fault.CommandFault.{CommandFault}
 
 abbrev pub StandsAs : CodeAction → Action → Type 0
 StandsAs (PutTemplate name t) (put_template n body) = (string_bytes name ≡ n) × IsTemplateOf t body
 StandsAs (PutPartial name t) (put_partial n body) = (string_bytes name ≡ n) × IsTemplateOf t body
 StandsAs (PutData name d) (put_data n whole) = (string_bytes name ≡ n) × (data_view d ≡ whole)
-StandsAs (PutRoute path shows fills) (put_route p s f) = (string_bytes path ≡ p) × (string_bytes shows ≡ s) × (string_bytes fills ≡ f)
+StandsAs (PutRoute path shows fills) (put_route p s f) =
+    (string_bytes path ≡ p) × (string_bytes shows ≡ s) × (string_bytes fills ≡ f)
 StandsAs (PutRedirect path target) (put_redirect p t) = (string_bytes path ≡ p) × (string_bytes target ≡ t)
 StandsAs (Remove kind name) (remove k n) = (kind_view kind ≡ k) × (string_bytes name ≡ n)
 StandsAs Release release = ⊤

@@ -2,7 +2,8 @@
 use Rattle.std.specs.Prelude.{ℕ, List}
 use Rattle.std.specs.Borrow.{Bor}
 use Rattle.command.specs.Action.{Kind, template, partial, page_data, route, redirect}
-use Rattle.command.specs.Rows.{Row, template_row, partial_row, data_row, route_row, redirect_row, remove_row, release_row}
+use Rattle.command.specs.Rows.{Row, template_row, partial_row, data_row, route_row, redirect_row, remove_row}
+use Rattle.command.specs.Rows.{release_row}
 use Rattle.command.specs.declared.commands.Kind.{Kind as CodeKind}
 use Rattle.command.specs.declared.commands.Kind.TheVariants as of
 use Rattle.command.specs.declared.rows.Row.{Row as CodeRow}

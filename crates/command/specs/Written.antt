@@ -7,7 +7,8 @@ use Rattle.context.specs.declared.fault.DataFault.TheVariants as data_fault
 use Rattle.mustache_scan.specs.Faults.{label as template_label}
 use Rattle.mustache_scan.specs.declared.fault.FaultKind.TheVariants as kind
 use Rattle.command.specs.declared.fault.CommandFault.{CommandFault}
-use Rattle.command.specs.declared.fault.CommandFault.TheVariants.{TooLong, Form, Name, Path, Template, Data, OutOfMemory}
+use Rattle.command.specs.declared.fault.CommandFault.TheVariants.{TooLong, Form, Name, Path, Template, Data}
+use Rattle.command.specs.declared.fault.CommandFault.TheVariants.{OutOfMemory}
 
 -- the ticket's numbers, the highest byte first, and then the text
 abbrev pub value_of : Ticket → List ℕ → List ℕ
@@ -19,7 +20,8 @@ line_of TooLong = codes "1 TooLong"
 line_of Form = codes "2 Form"
 line_of Name = codes "3 Name"
 line_of Path = codes "4 Path"
-line_of (Template fault) = codes "5 Template " ++ (template_label fault.kind ++ (codes " at " ++ decimal fault.place))
+line_of (Template fault) =
+    codes "5 Template " ++ (template_label fault.kind ++ (codes " at " ++ decimal fault.place))
 line_of (Data fault) = codes "6 Data " ++ data_label fault
 line_of OutOfMemory = []
 

@@ -1,5 +1,7 @@
-ghost use Rattle.command.specs.Laws.{RowIsSpelled, OlderRowStays, NewRowIsOfRedirect, FaultIsLeast, CommandHasNone, WrittenHolds};
-ghost use Rattle.command.specs.Laws.{StandingIsLast, TemplateIsLast, PartialIsLast, DataIsLast, RouteIsLast, RedirectIsLast};
+ghost use Rattle.command.specs.Laws.{RowIsSpelled, OlderRowStays, NewRowIsOfRedirect, FaultIsLeast};
+ghost use Rattle.command.specs.Laws.{CommandHasNone, WrittenHolds};
+ghost use Rattle.command.specs.Laws.{StandingIsLast, TemplateIsLast, PartialIsLast, DataIsLast, RouteIsLast};
+ghost use Rattle.command.specs.Laws.{RedirectIsLast};
 ghost use Rattle.command.specs.Laws.{EffectiveGrows, ReleaseIsShortest, NextBegins, ReleaseStays};
 
 /// The row of a text, and the first of a value's faults, are those of the table of commands. Each text that

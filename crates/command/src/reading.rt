@@ -4,8 +4,10 @@ ghost use Rattle.mustache_parse.specs.Template.{IsTemplateOf};
 ghost use Rattle.mustache_parse.specs.Tree.{tree_of};
 ghost use Rattle.mustache_scan.specs.declared.fault.TemplateFault.{TemplateFault};
 ghost use Rattle.command.specs.Action.{Order};
-ghost use Rattle.command.specs.Reading.{is_name, is_path, is_removable, wrong_remove, row_reading, text_reading, ticket_of, value_reading, TakesMemory};
-ghost use Rattle.command.specs.Rows.{Row as TextRow, release_row, template_row, partial_row, data_row, route_row, redirect_row, remove_row, row_of};
+ghost use Rattle.command.specs.Reading.{is_name, is_path, is_removable, wrong_remove, row_reading};
+ghost use Rattle.command.specs.Reading.{text_reading, ticket_of, value_reading, TakesMemory};
+ghost use Rattle.command.specs.Rows.{Row as TextRow, release_row, template_row, partial_row, data_row};
+ghost use Rattle.command.specs.Rows.{route_row, redirect_row, remove_row, row_of};
 ghost use Rattle.command.specs.Standing.{StandsFor, IsActionOf};
 ghost use Rattle.command.specs.View.{kind_view, row_view};
 ghost use Rattle.command.specs.Written.{HasLine};
@@ -57,7 +59,8 @@ fn action_of(alloc: Global, text: &str) -> Result<Action, CommandFault>
     ensures ok { IfOk result (λ a. IsActionOf a (text_reading (row_of text.now))) }
     ensures err { IfErr result (λ e. e ≢ CommandFault.OutOfMemory → text_reading (row_of text.now) ≡ Err e) }
     ensures line { IfErr result (λ e. e ≢ CommandFault.OutOfMemory → HasLine e) }
-    ensures memory { IfErr result (λ e. e ≡ CommandFault.OutOfMemory → (row : TextRow) × (row_of text.now ≡ Some row) × (row ≢ release_row)) }
+    ensures memory { IfErr result (λ e. e ≡ CommandFault.OutOfMemory
+        → (row : TextRow) × (row_of text.now ≡ Some row) × (row ≢ release_row)) }
 {
     match row_in(text) {
         Some(row) => row_action(alloc, row),
@@ -68,7 +71,8 @@ fn action_of(alloc: Global, text: &str) -> Result<Action, CommandFault>
 /// The action of a row of the table.
 fn row_action(alloc: Global, row: Row<'_>) -> Result<Action, CommandFault>
     ensures ok { IfOk result (λ a. IsActionOf a (row_reading (row_view row.entry))) }
-    ensures err { IfErr result (λ e. e ≢ CommandFault.OutOfMemory → row_reading (row_view row.entry) ≡ Err e) }
+    ensures err { IfErr result (λ e. e ≢ CommandFault.OutOfMemory
+        → row_reading (row_view row.entry) ≡ Err e) }
     ensures line { IfErr result (λ e. e ≢ CommandFault.OutOfMemory → HasLine e) }
     ensures memory { IfErr result (λ e. e ≡ CommandFault.OutOfMemory → row_view row.entry ≢ release_row) }
 {
@@ -96,7 +100,8 @@ fn row_action(alloc: Global, row: Row<'_>) -> Result<Action, CommandFault>
 /// The template of a text that is put.
 fn parsed(alloc: Global, body: &str) -> Result<Template, CommandFault>
     ensures ok { IfOk result (λ t. IsTemplateOf t body.now) }
-    ensures err { IfErr result (λ e. e ≢ CommandFault.OutOfMemory → (f : TemplateFault) × (tree_of body.now ≡ Err f) × (e ≡ CommandFault.Template f)) }
+    ensures err { IfErr result (λ e. e ≢ CommandFault.OutOfMemory
+        → (f : TemplateFault) × (tree_of body.now ≡ Err f) × (e ≡ CommandFault.Template f)) }
     ensures line { IfErr result (λ e. e ≢ CommandFault.OutOfMemory → HasLine e) }
 {
     match parse(alloc, body) {
@@ -110,10 +115,14 @@ fn parsed(alloc: Global, body: &str) -> Result<Template, CommandFault>
 
 /// The name and the text of a template or a partial that is put.
 fn named_text(alloc: Global, of: &str, body: &str) -> Result<(String, Template), CommandFault>
-    ensures template_put { IfOk result (λ p. IsActionOf (Action.PutTemplate p.0 p.1) (row_reading (template_row of.now body.now))) }
-    ensures partial_put { IfOk result (λ p. IsActionOf (Action.PutPartial p.0 p.1) (row_reading (partial_row of.now body.now))) }
-    ensures no_template { IfErr result (λ e. e ≢ CommandFault.OutOfMemory → row_reading (template_row of.now body.now) ≡ Err e) }
-    ensures no_partial { IfErr result (λ e. e ≢ CommandFault.OutOfMemory → row_reading (partial_row of.now body.now) ≡ Err e) }
+    ensures template_put { IfOk result (λ p. IsActionOf (Action.PutTemplate p.0 p.1)
+        (row_reading (template_row of.now body.now))) }
+    ensures partial_put { IfOk result (λ p. IsActionOf (Action.PutPartial p.0 p.1)
+        (row_reading (partial_row of.now body.now))) }
+    ensures no_template { IfErr result (λ e. e ≢ CommandFault.OutOfMemory
+        → row_reading (template_row of.now body.now) ≡ Err e) }
+    ensures no_partial { IfErr result (λ e. e ≢ CommandFault.OutOfMemory
+        → row_reading (partial_row of.now body.now) ≡ Err e) }
     ensures line { IfErr result (λ e. e ≢ CommandFault.OutOfMemory → HasLine e) }
 {
     if !is_name(of) {
@@ -127,7 +136,8 @@ fn named_text(alloc: Global, of: &str, body: &str) -> Result<(String, Template),
 
 fn data_put(alloc: Global, of: &str, body: &str) -> Result<Action, CommandFault>
     ensures ok { IfOk result (λ a. IsActionOf a (row_reading (data_row of.now body.now))) }
-    ensures err { IfErr result (λ e. e ≢ CommandFault.OutOfMemory → row_reading (data_row of.now body.now) ≡ Err e) }
+    ensures err { IfErr result (λ e. e ≢ CommandFault.OutOfMemory
+        → row_reading (data_row of.now body.now) ≡ Err e) }
     ensures line { IfErr result (λ e. e ≢ CommandFault.OutOfMemory → HasLine e) }
 {
     if !is_name(of) {
@@ -150,7 +160,8 @@ fn route_put(
     page_data: &str,
 ) -> Result<Action, CommandFault>
     ensures ok { IfOk result (λ a. IsActionOf a (row_reading (route_row at.now template.now page_data.now))) }
-    ensures err { IfErr result (λ e. e ≢ CommandFault.OutOfMemory → row_reading (route_row at.now template.now page_data.now) ≡ Err e) }
+    ensures err { IfErr result (λ e. e ≢ CommandFault.OutOfMemory
+        → row_reading (route_row at.now template.now page_data.now) ≡ Err e) }
     ensures line { IfErr result (λ e. e ≢ CommandFault.OutOfMemory → HasLine e) }
 {
     if !(is_name(template) && is_name(page_data)) {
@@ -168,7 +179,8 @@ fn route_put(
 
 fn redirect_put(alloc: Global, at: &str, target: &str) -> Result<Action, CommandFault>
     ensures ok { IfOk result (λ a. IsActionOf a (row_reading (redirect_row at.now target.now))) }
-    ensures err { IfErr result (λ e. e ≢ CommandFault.OutOfMemory → row_reading (redirect_row at.now target.now) ≡ Err e) }
+    ensures err { IfErr result (λ e. e ≢ CommandFault.OutOfMemory
+        → row_reading (redirect_row at.now target.now) ≡ Err e) }
     ensures line { IfErr result (λ e. e ≢ CommandFault.OutOfMemory → HasLine e) }
 {
     if !(is_path(at) && is_target(target)) {
@@ -202,7 +214,8 @@ fn good_path(at: &str) -> Result<(), CommandFault>
 
 /// What is wrong with what a remove names: a name, or the path of a route or a redirect.
 fn removable(kind: Kind, of: &str) -> Result<(), CommandFault>
-    ensures { result ≡ (if is_removable (kind_view kind) of.now then Ok tt else Err (wrong_remove (kind_view kind))) }
+    ensures { result ≡ (if is_removable (kind_view kind) of.now then Ok tt else Err
+        (wrong_remove (kind_view kind))) }
 {
     match kind {
         Kind::Template => good_name(of),
@@ -215,7 +228,8 @@ fn removable(kind: Kind, of: &str) -> Result<(), CommandFault>
 
 fn removal(alloc: Global, kind: Kind, of: &str) -> Result<Action, CommandFault>
     ensures ok { IfOk result (λ a. IsActionOf a (row_reading (remove_row (kind_view kind) of.now))) }
-    ensures err { IfErr result (λ e. e ≢ CommandFault.OutOfMemory → row_reading (remove_row (kind_view kind) of.now) ≡ Err e) }
+    ensures err { IfErr result (λ e. e ≢ CommandFault.OutOfMemory
+        → row_reading (remove_row (kind_view kind) of.now) ≡ Err e) }
     ensures line { IfErr result (λ e. e ≢ CommandFault.OutOfMemory → HasLine e) }
 {
     match removable(kind, of) {

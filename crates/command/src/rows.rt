@@ -1,6 +1,7 @@
 ghost use Rattle.std.specs.Prelude.{◌≡◌, ◌<◌, ◌++◌, ◌∷◌, [], option_map, codes, Some, None};
 ghost use Rattle.command.specs.Cuts.{after_front, cut_at};
-ghost use Rattle.command.specs.Rows.{is_word, named, kind_word, remove_of, removes_of, route_of, redirect_of, release_of, older_row_of, row_of};
+ghost use Rattle.command.specs.Rows.{is_word, named, kind_word, remove_of, removes_of, route_of, redirect_of};
+ghost use Rattle.command.specs.Rows.{release_of, older_row_of, row_of};
 ghost use Rattle.command.specs.View.{kind_view, row_view, pair_view};
 
 use crate::commands::Kind;

@@ -18,9 +18,11 @@ IsOfText (Some t) text = (x : List ℕ) × (text ≡ Some x) × IsTemplateOf t x
 pub record HasContents (contents : ContentsSeen) (orders : List Order) : Type 0 where
   pub templates : (name : List ℕ) → IsOfText (at_name name contents.templates) (template_at name orders)
   pub partials : (name : List ℕ) → IsOfText (at_name name contents.partials) (partial_at name orders)
-  pub page_data : (name : List ℕ) → option_map data_view (at_name name contents.page_data) ≡ data_at name orders
+  pub page_data : (name : List ℕ) → option_map data_view (at_name name contents.page_data)
+      ≡ data_at name orders
   pub routes : (path : List ℕ) → option_map names_of (at_name path contents.routes) ≡ route_at path orders
-  pub redirects : (path : List ℕ) → option_map string_bytes (at_name path contents.redirects) ≡ redirect_at path orders
+  pub redirects : (path : List ℕ) → option_map string_bytes (at_name path contents.redirects)
+      ≡ redirect_at path orders
 
 abbrev pub is_held : Ticket → List Ticket → Bool
 is_held ticket tickets = list_any (is_same_ticket ticket) tickets

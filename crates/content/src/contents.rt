@@ -1,4 +1,5 @@
-ghost use Rattle.std.specs.Prelude.{◌≡◌, ℕ, List, [], ◌∷◌, ◌++◌, None, Some, IfOk, OnOk, OnErr, MatchOption, option_map};
+ghost use Rattle.std.specs.Prelude.{◌≡◌, ℕ, List, [], ◌∷◌, ◌++◌, None, Some, IfOk, OnOk, OnErr, MatchOption};
+ghost use Rattle.std.specs.Prelude.{option_map};
 ghost use Rattle.command.specs.Action.{Order, remove};
 ghost use Rattle.command.specs.Site.{template_at, partial_at, data_at, route_at, redirect_at};
 ghost use Rattle.command.specs.Standing.{StandsAs};
@@ -79,7 +80,8 @@ impl Contents {
     /// Applies the action of the next command. If an allocation fails, the contents stay as they are.
     pub fn act(&mut self, action: Action) -> Result<Applied, AllocError>
         ensures ok { IfOk result (λ a. (orders : List Order) (order : Order) → StandsAs action order.action
-            → HasContents self.old orders → HasContents self.new (orders ++ (order ∷ [])) × (a ≡ answered order.action)) }
+            → HasContents self.old orders
+            → HasContents self.new (orders ++ (order ∷ [])) × (a ≡ answered order.action)) }
         ensures err { OnErr result (self.new ≡ self.old) }
     {
         let done = match action {
@@ -106,7 +108,8 @@ impl Contents {
     }
 
     fn remove(&mut self, kind: Kind, name: &str) -> Result<(), AllocError>
-        ensures removed { OnOk result ((orders : List Order) (order : Order) → order.action ≡ remove (kind_view kind) name.now
+        ensures removed { OnOk result ((orders : List Order) (order : Order)
+            → order.action ≡ remove (kind_view kind) name.now
             → HasContents self.old orders → HasContents self.new (orders ++ (order ∷ []))) }
         ensures err { OnErr result (self.new ≡ self.old) }
     {
@@ -164,14 +167,16 @@ impl Contents {
 
     /// The data of that name.
     pub fn data(&self, name: &str) -> Option<&Data>
-        ensures { (orders : List Order) → HasContents self.now orders → option_map (λ d. data_view d.now) result ≡ data_at name.now orders }
+        ensures { (orders : List Order) → HasContents self.now orders
+            → option_map (λ d. data_view d.now) result ≡ data_at name.now orders }
     {
         self.page_data.get(name)
     }
 
     /// The names of the template and the data of the route at that path.
     pub fn route(&self, path: &str) -> Option<(&str, &str)>
-        ensures { (orders : List Order) → HasContents self.now orders → option_map pair_view result ≡ route_at path.now orders }
+        ensures { (orders : List Order) → HasContents self.now orders
+            → option_map pair_view result ≡ route_at path.now orders }
     {
         let target = self.routes.get(path)?;
         Some((target.template.as_str(), target.page_data.as_str()))
@@ -179,7 +184,8 @@ impl Contents {
 
     /// The path that the redirect at that path leads to.
     pub fn redirect(&self, path: &str) -> Option<&str>
-        ensures { (orders : List Order) → HasContents self.now orders → option_map (λ target. target.now) result ≡ redirect_at path.now orders }
+        ensures { (orders : List Order) → HasContents self.now orders
+            → option_map (λ target. target.now) result ≡ redirect_at path.now orders }
     {
         let target = self.redirects.get(path)?;
         Some(target.as_str())

@@ -14,7 +14,8 @@ pub(crate) fn put<V: Drop>(
     name: String,
     value: V,
 ) -> Result<(), AllocError>
-    ensures ok { OnOk result ((n : List ℕ) → at_name n map.new ≡ update bytes_eq (λ m. at_name m map.old) (string_bytes name) (Some value) n) }
+    ensures ok { OnOk result ((n : List ℕ)
+        → at_name n map.new ≡ update bytes_eq (λ m. at_name m map.old) (string_bytes name) (Some value) n) }
     ensures err { OnErr result (map.new ≡ map.old) }
 {
     map.put(name, value)
@@ -25,7 +26,8 @@ pub(crate) fn take_away<V: Drop>(
     map: &mut SharedMap<String, V>,
     name: &str,
 ) -> Result<(), AllocError>
-    ensures ok { OnOk result ((n : List ℕ) → at_name n map.new ≡ update bytes_eq (λ m. at_name m map.old) name.now None n) }
+    ensures ok { OnOk result ((n : List ℕ)
+        → at_name n map.new ≡ update bytes_eq (λ m. at_name m map.old) name.now None n) }
     ensures err { OnErr result (map.new ≡ map.old) }
 {
     map.remove(name)

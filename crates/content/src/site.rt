@@ -1,6 +1,7 @@
 //! The set of tickets with the new one is made beside the old set.
 
-ghost use Rattle.std.specs.Prelude.{◌≡◌, ◌≢◌, ℕ, List, [], ◌∷◌, ◌++◌, Some, None, Ok, true, if◌then◌else◌, IfOk, OnErr, MatchOption, option_map};
+ghost use Rattle.std.specs.Prelude.{◌≡◌, ◌≢◌, ℕ, List, [], ◌∷◌, ◌++◌, Some, None, Ok, true, if◌then◌else◌};
+ghost use Rattle.std.specs.Prelude.{IfOk, OnErr, MatchOption, option_map};
 ghost use Rattle.command.specs.Action.{Order};
 ghost use Rattle.command.specs.Effective.{effective, is_same_ticket};
 ghost use Rattle.command.specs.Reading.{value_reading};
@@ -61,7 +62,8 @@ fn with_ticket(
     tickets: &SharedMap<Ticket, ()>,
     ticket: Ticket,
 ) -> Result<SharedMap<Ticket, ()>, AllocError>
-    ensures { IfOk result (λ more. (t : Ticket) → is_held t (keys more) ≡ (if is_same_ticket ticket t then true else is_held t (keys tickets.now))) }
+    ensures { IfOk result (λ more. (t : Ticket)
+        → is_held t (keys more) ≡ (if is_same_ticket ticket t then true else is_held t (keys tickets.now))) }
 {
     let mut more = tickets.copy()?;
     more.put(ticket, ())?;
@@ -95,7 +97,8 @@ impl Site {
     /// Applies the next value, given the command that it was read as, unless an earlier command has its
     /// ticket. If an allocation fails, the site stays as it is.
     pub fn apply_command(&mut self, command: Command) -> Result<Applied, AllocError>
-        ensures ok { IfOk result (λ a. (values : List (List ℕ)) (v : List ℕ) (order : Order) → value_reading v ≡ Ok order → StandsFor command order
+        ensures ok { IfOk result (λ a. (values : List (List ℕ)) (v : List ℕ) (order : Order)
+            → value_reading v ≡ Ok order → StandsFor command order
             → IsSiteOf self.old values → IsSiteOf self.new (values ++ (v ∷ [])) × (a ≡ applied values v)) }
         ensures err { OnErr result (self.new ≡ self.old) }
     {
@@ -115,8 +118,10 @@ impl Site {
 
     /// Applies an action, and keeps the tickets, which have that of its command.
     fn act(&mut self, tickets: SharedMap<Ticket, ()>, action: Action) -> Result<Applied, AllocError>
-        ensures ok { IfOk result (λ a. (self.new.tickets ≡ keys tickets) × ((orders : List Order) (order : Order) → StandsAs action order.action
-            → HasContents self.old.contents orders → HasContents self.new.contents (orders ++ (order ∷ [])) × (a ≡ answered order.action))) }
+        ensures ok { IfOk result (λ a. (self.new.tickets ≡ keys tickets)
+            × ((orders : List Order) (order : Order) → StandsAs action order.action
+            → HasContents self.old.contents orders
+            → HasContents self.new.contents (orders ++ (order ∷ [])) × (a ≡ answered order.action))) }
         ensures err { OnErr result (self.new ≡ self.old) }
     {
         let done = self.contents.act(action)?;
@@ -139,7 +144,8 @@ impl Site {
     pub fn template(&self, name: &str) -> Option<&Template>
         ensures { (values : List (List ℕ)) → IsSiteOf self.now values
             → MatchOption result (template_at name.now (effective values) ≡ None)
-            (λ t. (text : List ℕ) × (template_at name.now (effective values) ≡ Some text) × IsTemplateOf t.now text) }
+            (λ t. (text : List ℕ) × (template_at name.now (effective values) ≡ Some text)
+            × IsTemplateOf t.now text) }
     {
         self.contents.template(name)
     }
@@ -148,28 +154,32 @@ impl Site {
     pub fn partial(&self, name: &str) -> Option<&Template>
         ensures { (values : List (List ℕ)) → IsSiteOf self.now values
             → MatchOption result (partial_at name.now (effective values) ≡ None)
-            (λ t. (text : List ℕ) × (partial_at name.now (effective values) ≡ Some text) × IsTemplateOf t.now text) }
+            (λ t. (text : List ℕ) × (partial_at name.now (effective values) ≡ Some text)
+            × IsTemplateOf t.now text) }
     {
         self.contents.partial(name)
     }
 
     /// The data of that name.
     pub fn data(&self, name: &str) -> Option<&Data>
-        ensures { (values : List (List ℕ)) → IsSiteOf self.now values → option_map (λ d. data_view d.now) result ≡ data_at name.now (effective values) }
+        ensures { (values : List (List ℕ)) → IsSiteOf self.now values
+            → option_map (λ d. data_view d.now) result ≡ data_at name.now (effective values) }
     {
         self.contents.data(name)
     }
 
     /// The names of the template and the data of the route at that path.
     pub fn route(&self, path: &str) -> Option<(&str, &str)>
-        ensures { (values : List (List ℕ)) → IsSiteOf self.now values → option_map pair_view result ≡ route_at path.now (effective values) }
+        ensures { (values : List (List ℕ)) → IsSiteOf self.now values
+            → option_map pair_view result ≡ route_at path.now (effective values) }
     {
         self.contents.route(path)
     }
 
     /// The path that the redirect at that path leads to.
     pub fn redirect(&self, path: &str) -> Option<&str>
-        ensures { (values : List (List ℕ)) → IsSiteOf self.now values → option_map (λ target. target.now) result ≡ redirect_at path.now (effective values) }
+        ensures { (values : List (List ℕ)) → IsSiteOf self.now values
+            → option_map (λ target. target.now) result ≡ redirect_at path.now (effective values) }
     {
         self.contents.redirect(path)
     }

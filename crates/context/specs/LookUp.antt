@@ -2,7 +2,8 @@
 use Rattle.std.specs.Prelude.{ℕ, Bool, true, false, ◌==◌, List, [], ◌∷◌, Option, None, Some}
 use Rattle.std.specs.List.{slice_split}
 use Rattle.std.specs.Str.{bytes_eq}
-use Rattle.context.specs.Whole.{Whole, null, boolean, list, hash, Items, no_items, item, Members, no_members, member}
+use Rattle.context.specs.Whole.{Whole, null, boolean, list, hash, Items, no_items, item, Members, no_members}
+use Rattle.context.specs.Whole.{member}
 
 -- the parts of a name between its dots
 abbrev pub parts : List ℕ → List (List ℕ)

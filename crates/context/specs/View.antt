@@ -1,7 +1,8 @@
 -- The whole data that a `Data` stands for.
 use Rattle.std.specs.Prelude.{List, [], ◌∷◌, map, String, string_bytes}
 use Rattle.std.specs.declared.alloc.Global.{Global}
-use Rattle.context.specs.Whole.{Whole, null, boolean, int, text, list, hash, Items, no_items, item, Members, no_members, member}
+use Rattle.context.specs.Whole.{Whole, null, boolean, int, text, list, hash, Items, no_items, item, Members}
+use Rattle.context.specs.Whole.{no_members, member}
 use Rattle.context.specs.declared.tree.Data.{Data, fold-Data}
 use Rattle.context.specs.declared.tree.Data.TheOpen.{Data-F}
 

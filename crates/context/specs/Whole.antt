@@ -1,5 +1,6 @@
 -- Whole data: JSON values whose numbers are all whole.
-use Rattle.std.specs.Prelude.{ℕ, ℤ, List, Bool, Option, Some, None, option_map, option_and_then, Result, Ok, Err, if◌then◌else◌}
+use Rattle.std.specs.Prelude.{ℕ, ℤ, List, Bool, Option, Some, None, option_map, option_and_then, Result, Ok}
+use Rattle.std.specs.Prelude.{Err, if◌then◌else◌}
 use Rattle.std.specs.Str.{is_utf8}
 use Rattle.serde_json.specs.Data as json
 use Rattle.serde_json.specs.Read.{read}
@@ -41,7 +42,8 @@ abbrev mutual
 
   pub whole_members : json.Members → Option Members
   whole_members json.no_members = Some no_members
-  whole_members (json.member k d ms) = option_and_then (λ x. option_map (member k x) (whole_members ms)) (whole d)
+  whole_members (json.member k d ms) = option_and_then (λ x. option_map (member k x) (whole_members ms))
+      (whole d)
 
 -- the whole data of a JSON value, or NotWhole
 abbrev pub whole_or_not : Option Whole → Result Whole DataFault

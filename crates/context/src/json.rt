@@ -47,7 +47,8 @@ fn data_of(alloc: Global, value: &Value) -> Result<Data, DataFault>
 #[cycle(convert)]
 fn list_of(alloc: Global, items: &Vec<Value>) -> Result<Vec<Data>, DataFault>
     ensures { MatchResult result (λ v. whole_items (json_items items.now.items) ≡ Some (items_view v.items))
-        (λ e. ((e ≡ DataFault.NotWhole) × (whole_items (json_items items.now.items) ≡ None)) ⊎ (e ≡ DataFault.OutOfMemory)) }
+        (λ e. ((e ≡ DataFault.NotWhole) × (whole_items (json_items items.now.items) ≡ None))
+        ⊎ (e ≡ DataFault.OutOfMemory)) }
 {
     let mut found = Vec::with_capacity(alloc, items.len())?;
     for item in items {
@@ -61,8 +62,10 @@ fn hash_of(
     alloc: Global,
     members: &BTreeMap<String, Value>,
 ) -> Result<BTreeMap<String, Data>, DataFault>
-    ensures { MatchResult result (λ m. whole_members (json_members members.now.entries) ≡ Some (members_view m.entries))
-        (λ e. ((e ≡ DataFault.NotWhole) × (whole_members (json_members members.now.entries) ≡ None)) ⊎ (e ≡ DataFault.OutOfMemory)) }
+    ensures { MatchResult result (λ m. whole_members (json_members members.now.entries)
+        ≡ Some (members_view m.entries))
+        (λ e. ((e ≡ DataFault.NotWhole) × (whole_members (json_members members.now.entries) ≡ None))
+        ⊎ (e ≡ DataFault.OutOfMemory)) }
 {
     let mut found = BTreeMap::new(alloc);
     for (key, member) in members.iter() {

@@ -42,7 +42,8 @@ fn cut_at_dot(path: &str) -> Option<(&str, &str)>
 
 /// What the parts of a path lead to, from one value.
 fn within<'a>(value: &'a Data, path: &str) -> Option<&'a Data>
-    ensures { option_map (λ v. data_view v.now) result ≡ within (Some (data_view value.now)) (parts path.now) }
+    ensures { option_map (λ v. data_view v.now) result
+        ≡ within (Some (data_view value.now)) (parts path.now) }
 {
     match cut_at_dot(path) {
         None => value.member(path),

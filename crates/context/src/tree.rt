@@ -30,7 +30,8 @@ impl Data {
 }
 
 fn member_among<'a>(members: &'a BTreeMap<String, Data>, key: &str) -> Option<&'a Data>
-    ensures { option_map (λ v. data_view v.now) result ≡ member_of key.now (hash (members_view members.now.entries)) }
+    ensures { option_map (λ v. data_view v.now) result
+        ≡ member_of key.now (hash (members_view members.now.entries)) }
 {
     members.get(key)
 }

@@ -34,7 +34,8 @@ vote_after i last [] = last
 vote_after i last (Round s ∷ es) = vote_after i last es
 vote_after i last (Promised j b ∷ es) = vote_after i last es
 vote_after i last (PromisedSpan j k b ∷ es) = vote_after i last es
-vote_after i last (Voted j b v ∷ es) = vote_after i (if nat_eq j i then Some (record { ballot = b; value = v }) else last) es
+vote_after i last (Voted j b v ∷ es) =
+    vote_after i (if nat_eq j i then Some (record { ballot = b; value = v }) else last) es
 vote_after i last (Learned j v ∷ es) = vote_after i last es
 vote_after i last (Floor f ∷ es) = vote_after i last es
 

@@ -20,13 +20,17 @@ SettledKeeps = (node cluster : ℕ) (entries : List Entry) (d : DiskState) → I
 
 -- after a crash it is settled whether the entry in flight stands
 abbrev pub CrashSettles : Type 0
-CrashSettles = (node cluster : ℕ) (entries : List Entry) (in_flight : Option Entry) (d : DiskState) (left : List ℕ) → Keeps node cluster entries in_flight d → MayLeave (moment d) left
+CrashSettles =
+    (node cluster : ℕ) (entries : List Entry) (in_flight : Option Entry) (d : DiskState) (left : List ℕ)
+    → Keeps node cluster entries in_flight d → MayLeave (moment d) left
     → (found : List Entry) × Settles entries in_flight found
     × ((past : List Moment) → Keeps node cluster found None (at_rest left past))
 
 -- and so it is for what an opening without a crash reads
 abbrev pub OpeningSettles : Type 0
-OpeningSettles = (node cluster : ℕ) (entries : List Entry) (in_flight : Option Entry) (d : DiskState) (found : List Entry) → Keeps node cluster entries in_flight d → StandsFor node cluster d.seen found
+OpeningSettles =
+    (node cluster : ℕ) (entries : List Entry) (in_flight : Option Entry) (d : DiskState) (found : List Entry)
+    → Keeps node cluster entries in_flight d → StandsFor node cluster d.seen found
     → Settles entries in_flight found
 
 -- an opening that is refused keeps what the disk kept, and leaves it at any moment

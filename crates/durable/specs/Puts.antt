@@ -33,7 +33,9 @@ AreOthersKept j old new = (i : ℕ) → i ≢ j → cell_at new i ≡ cell_at ol
 -- the slots, and what was learned, after one entry more
 abbrev pub AreSlotsAfter : Entry → Slots → Slots → Type 0
 AreSlotsAfter (Round r) old new = AreSlotsKept old new
-AreSlotsAfter (Promised j b) old new = (cell_at new j ≡ record (cell_at old j) { slot = with_promise (slot_at old j) b }) × AreOthersKept j old new
+AreSlotsAfter (Promised j b) old new =
+    (cell_at new j ≡ record (cell_at old j) { slot = with_promise (slot_at old j) b })
+    × AreOthersKept j old new
 AreSlotsAfter (PromisedSpan j k b) old new = ((i : ℕ) → IsInSpan j k i
     → IsRaised (slot_at old i) b (slot_at new i) × (value_at new i ≡ value_at old i))
     × ((i : ℕ) → ¬ IsInSpan j k i → cell_at new i ≡ cell_at old i)

@@ -50,7 +50,8 @@ impl<D: Disk> Record<D> {
         ensures refused { IsErrOf result RecordFault.Stopped → self.new ≡ self.old }
         ensures others { OnErr result (IsErrOf result RecordFault.Stopped
             ⊎ IsErrOf result RecordFault.Device) }
-        ensures stops { OnErr result (self.new ≡ record self.old { disk = self.new.disk; stopped = true; staged = self.new.staged }) }
+        ensures stops { OnErr result (self.new
+            ≡ record self.old { disk = self.new.disk; stopped = true; staged = self.new.staged }) }
         ensures same { self.new ≡ record self.old { disk = self.new.disk; stopped = self.new.stopped; staged = self.new.staged; recorded = record self.old.recorded { gate = self.new.recorded.gate } } }
     {
         if self.stopped {
@@ -75,7 +76,8 @@ impl<D: Disk> Record<D> {
         requires open { IsBatchOpen self.old }
         requires near { self.old.recorded.gate + length bytes.now < 2 ^ 63 }
         ensures staged { OnOk result (Stages D.stands_for self.old self.new bytes.now) }
-        ensures recorded { OnOk result (self.new.recorded ≡ record self.old.recorded { gate = self.old.recorded.gate + length bytes.now }) }
+        ensures recorded { OnOk result (self.new.recorded
+            ≡ record self.old.recorded { gate = self.old.recorded.gate + length bytes.now }) }
         ensures open { IsBatchOpen self.new }
         ensures refused { OnErr result (IsUnchanged self.old self.new) }
         ensures same { self.new ≡ record self.old { recorded = self.new.recorded; staged = self.new.staged } }

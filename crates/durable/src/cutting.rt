@@ -14,8 +14,8 @@ use crate::sum::{SUM_BLOCK, Sum};
 use site_disk::Disk;
 use std::alloc::Global;
 
-/// Whether a batch with its right sum follows the gate at which a record of `len` bytes ends, and then an open
-/// gate.
+/// Whether a batch with its right sum follows the gate at which a record of `len` bytes ends, and then an
+/// open gate.
 fn has_batch_after<D: Disk>(
     alloc: Global,
     disk: &mut D,

@@ -54,8 +54,8 @@ impl<D: Disk> Record<D> {
     /// Has the file reach `room` bytes past the gate, and answers whether it does. Missing bytes are written
     /// as zeros, and synced. What the record says stays as it is, at any moment of a crash too.
     ///
-    /// Want of room on the disk or in memory is no fault, and the answer is `false`. So it is while a batch is
-    /// open. A device that fails stops the record.
+    /// Want of room on the disk or in memory is no fault, and the answer is `false`. So it is while a batch
+    /// is open. A device that fails stops the record.
     pub fn grow(&mut self, room: u64) -> Result<bool, RecordFault>
         ensures grown { IfOk result (λ there.
             Grows D.stands_for self.old self.new (length_for self.old.recorded.gate room) there) }

@@ -79,7 +79,8 @@ fn slot_of(bytes: &[u8], cluster: Cluster) -> Option<(Instance, Ballot)>
 fn span_of(bytes: &[u8], cluster: Cluster) -> Option<(Instance, u8, Ballot)>
     ensures { MatchOption result ((i k : ℕ) (b : BallotOf) → 2 ≤ k → IsSpan i k → IsBallot cluster b
         → bytes.now ≢ big_bytes 4 i ++ k ∷ ballot_bytes b)
-        (λ s. (2 ≤ s.1) × IsSpan s.0 s.1 × IsBallot cluster s.2 × (bytes.now ≡ big_bytes 4 s.0 ++ s.1 ∷ ballot_bytes s.2)) }
+        (λ s. (2 ≤ s.1) × IsSpan s.0 s.1 × IsBallot cluster s.2
+        × (bytes.now ≡ big_bytes 4 s.0 ++ s.1 ∷ ballot_bytes s.2)) }
 {
     let [a, b, c, d, count, ballot @ ..] = bytes else {
         return None;

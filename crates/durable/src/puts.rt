@@ -142,7 +142,8 @@ impl<D: Disk> Record<D> {
         requires { self.old.recorded.gate + length bytes.now < 2 ^ 63 }
         ensures done { OnOk result (Appends D.stands_for self.old self.new bytes.now) }
         ensures failed { OnErr result (BreaksOff D.stands_for self.old self.new bytes.now) }
-        ensures gate { OnOk result (self.new.recorded ≡ record self.old.recorded { gate = self.old.recorded.gate + length bytes.now }) }
+        ensures gate { OnOk result (self.new.recorded
+            ≡ record self.old.recorded { gate = self.old.recorded.gate + length bytes.now }) }
         ensures runs { OnOk result (self.new.stopped ≡ false) }
         ensures stops { OnErr result ((self.new.stopped ≡ true) × (self.new.recorded ≡ self.old.recorded)) }
         ensures cause { CountsFailure result (D.failed self.old.disk) (D.failed self.new.disk) }

@@ -177,7 +177,8 @@ impl Slots {
     /// Raises a promise if there is room for the slot.
     pub(crate) fn promise(&mut self, at: Instance, ballot: Ballot)
         requires { IsThere self.old at }
-        ensures promised { cell_at self.new at ≡ record (cell_at self.old at) { slot = with_promise (slot_at self.old at) ballot } }
+        ensures promised { cell_at self.new at
+            ≡ record (cell_at self.old at) { slot = with_promise (slot_at self.old at) ballot } }
         ensures others { (other : ℕ) → other ≢ at → cell_at self.new other ≡ cell_at self.old other }
         ensures kept { (other : ℕ) → IsThere self.old other → IsThere self.new other }
     {
@@ -191,7 +192,8 @@ impl Slots {
     /// Puts a vote, whose ballot is promised too, if there is room for the slot.
     pub(crate) fn vote(&mut self, at: Instance, vote: Vote)
         requires { IsThere self.old at }
-        ensures voted { cell_at self.new at ≡ record (cell_at self.old at) { slot = with_vote vote.ballot vote.value } }
+        ensures voted { cell_at self.new at
+            ≡ record (cell_at self.old at) { slot = with_vote vote.ballot vote.value } }
         ensures others { (other : ℕ) → other ≢ at → cell_at self.new other ≡ cell_at self.old other }
     {
         if let Some(cell) = self.prefix.get_mut(at.number() as usize - 1) {

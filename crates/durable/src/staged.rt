@@ -87,8 +87,12 @@ impl Staged {
     pub(crate) fn seal(&mut self, gate: u64) -> Sealed
         requires { 19 < length self.old.bytes.items }
         ensures bytes { (blocks : List ℕ) → drop 18 self.old.bytes.items ≡ blocks ++ 0 ∷ []
-            → drop result.from self.new.bytes.items ≡ drop 1 ((if nat_lt MAX_RECORD (self.old.base + length self.old.bytes.items) then blocks else summed blocks) ++ 0 ∷ []) }
-        ensures end { result.end ≡ (if nat_lt MAX_RECORD (self.old.base + length self.old.bytes.items) then gate else (self.old.base + length self.old.bytes.items) - 1) }
+            → drop result.from self.new.bytes.items
+            ≡ drop 1 ((if nat_lt MAX_RECORD
+            (self.old.base + length self.old.bytes.items) then blocks else summed blocks) ++ 0 ∷ []) }
+        ensures end { result.end ≡ (if nat_lt MAX_RECORD
+            (self.old.base + length self.old.bytes.items) then gate else
+            (self.old.base + length self.old.bytes.items) - 1) }
         ensures within { result.from ≤ length self.new.bytes.items }
         ensures base { self.new.base ≡ self.old.base }
     {

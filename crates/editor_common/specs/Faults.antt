@@ -1,7 +1,8 @@
 -- Which faults end what.
 use Rattle.std.specs.Prelude.{◌≡◌, ⊤, List, ℕ, ◌++◌, codes, string_bytes}
 use Rattle.editor_common.specs.declared.editor_fault.EditorFault.{EditorFault}
-use Rattle.editor_common.specs.declared.editor_fault.EditorFault.TheVariants.{File, Write, Stop, Clock, OutOfMemory}
+use Rattle.editor_common.specs.declared.editor_fault.EditorFault.TheVariants.{File, Write, Stop, Clock}
+use Rattle.editor_common.specs.declared.editor_fault.EditorFault.TheVariants.{OutOfMemory}
 
 -- words were made that say why nothing goes on; or an allocation failed, perhaps that of the words
 abbrev pub IsStopOrMemory : EditorFault → Type 0
@@ -9,8 +10,8 @@ IsStopOrMemory (Stop words) = ⊤
 IsStopOrMemory OutOfMemory = ⊤
 IsStopOrMemory _ = ⊥
 
--- while a group is spoken to, and what it says is written: a line could not be written, the clock could not be read, or
--- an allocation failed
+-- while a group is spoken to, and what it says is written: a line could not be written, the clock could not
+-- be read, or an allocation failed
 abbrev pub IsOfTalk : EditorFault → Type 0
 IsOfTalk Write = ⊤
 IsOfTalk Clock = ⊤

@@ -8,7 +8,8 @@ with_end line = line ++ 10 ∷ []
 
 -- so many lines were written, and nothing else
 abbrev pub WritesLines : ℕ → Option (List ℕ) → Option (List ℕ) → Type 0
-WritesLines n old new = (lines : List (List ℕ)) × (length lines ≡ n) × Appends old new (flat_map with_end lines)
+WritesLines n old new =
+    (lines : List (List ℕ)) × (length lines ≡ n) × Appends old new (flat_map with_end lines)
 
 -- one was
 abbrev pub WritesLine : Option (List ℕ) → Option (List ℕ) → Type 0

@@ -1,5 +1,6 @@
 -- Where a byte of a text stands, as editors count.
-use Rattle.std.specs.Prelude.{ℕ, suc, List, Bool, not, ◌==◌, take, reverse, count_by, take_while, nat_lt, nat_le, ◌||◌}
+use Rattle.std.specs.Prelude.{ℕ, suc, List, Bool, not, ◌==◌, take, reverse, count_by, take_while, nat_lt}
+use Rattle.std.specs.Prelude.{nat_le, ◌||◌}
 
 -- the byte begins a character
 abbrev pub is_lead : ℕ → Bool

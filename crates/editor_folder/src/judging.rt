@@ -23,7 +23,8 @@ pub struct Refusal {
 /// A fault with its line; want of memory has none.
 fn refusal_of(alloc: Global, fault: CommandFault) -> Result<Refusal, AllocError>
     requires { fault ≢ CommandFault.OutOfMemory → HasLine fault }
-    ensures { IfOk result (λ r. (fault ≢ CommandFault.OutOfMemory) × (r.fault ≡ fault) × (string_bytes r.line ≡ line_of fault)) }
+    ensures { IfOk result (λ r. (fault ≢ CommandFault.OutOfMemory) × (r.fault ≡ fault)
+        × (string_bytes r.line ≡ line_of fault)) }
 {
     match fault {
         CommandFault::OutOfMemory => Err(AllocError),

@@ -4,11 +4,11 @@
 //! `command` whether a text is a command, and where it is none `template_reasons.rt`, `data_reasons.rt` and
 //! `reasons.rt` say why, for people: the place, and what to do. `lines.rt` reads `routes`, `redirects` and
 //! `removes`, `keys.rt` the keys of data, and `tags.rt` keeps names. `checks.rt` looks for what is named and
-//! isn't there, `unreached.rt` for paths that no link leads to, `endless.rt` for redirects in circles, `unused.rt` for what no page comes to.
-//! `pages.rt` renders each route, as a node would, `limits.rt` says which limit one passes, `moved.rt` makes
-//! the file of a page that moved, and `copies.rt` says which file of a static copy a page is. `views.rt` says
-//! what a node shows of any texts, `restoring.rt` which files put them. `beginning.rt` has a small site to
-//! start from.
+//! isn't there, `unreached.rt` for paths that no link leads to, `endless.rt` for redirects in circles,
+//! `unused.rt` for what no page comes to. `pages.rt` renders each route, as a node would, `limits.rt` says
+//! which limit one passes, `moved.rt` makes the file of a page that moved, and `copies.rt` says which file of
+//! a static copy a page is. `views.rt` says what a node shows of any texts, `restoring.rt` which files put
+//! them. `beginning.rt` has a small site to start from.
 #![tactic(auto)]
 
 mod beginning;

@@ -1,4 +1,5 @@
-ghost use Rattle.std.specs.Prelude.{◌≡◌, ◌==◌, ◌<◌, ◌+◌, ◌^◌, suc, not, length, reverse, count_by, take_while, if◌then◌else◌};
+ghost use Rattle.std.specs.Prelude.{◌≡◌, ◌==◌, ◌<◌, ◌+◌, ◌^◌, suc, not, length, reverse, count_by};
+ghost use Rattle.std.specs.Prelude.{take_while, if◌then◌else◌};
 ghost use Rattle.editor_folder.specs.Places.{is_lead, line_of, column_of};
 
 /// A place of a text, as editors show it: both are counted from 1, the column in characters.

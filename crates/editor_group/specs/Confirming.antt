@@ -1,11 +1,13 @@
 -- What a group may say of a ledger.
-use Rattle.std.specs.Prelude.{◌≡◌, ◌⊎◌, ⊤, ℕ, List, length, ◌++◌, codes, decimal, string_bytes, Option, Some, None}
+use Rattle.std.specs.Prelude.{◌≡◌, ◌⊎◌, ⊤, ℕ, List, length, ◌++◌, codes, decimal, string_bytes, Option, Some}
+use Rattle.std.specs.Prelude.{None}
 use Rattle.editor_common.specs.declared.editor_fault.EditorFault.{EditorFault}
 use Rattle.editor_common.specs.declared.editor_fault.EditorFault.TheVariants.{Write, Stop, Clock, OutOfMemory}
 use Rattle.editor_ledger.specs.Books.{Book}
 use Rattle.editor_plan.specs.Standings.{last_ticket, last_shown, standing_of}
 use Rattle.editor_plan.specs.declared.standing.Standing.{Standing}
-use Rattle.editor_plan.specs.declared.standing.Standing.TheVariants.{Newest, Older, Elsewhere, Returning, Unanswered}
+use Rattle.editor_plan.specs.declared.standing.Standing.TheVariants.{Newest, Older, Elsewhere, Returning}
+use Rattle.editor_plan.specs.declared.standing.Standing.TheVariants.{Unanswered}
 use Rattle.editor_plan.specs.declared.standing.Witness.{Witness}
 use Rattle.editor_group.specs.declared.judging.Look.{Look}
 use Rattle.editor_group.specs.declared.judging.Look.TheVariants.{Confirmed, Refused}
@@ -26,7 +28,8 @@ IsConfirmed n book = Stands n (last_ticket book) (last_shown book) Newest
 abbrev pub SaysWhy : List ℕ → Option ℕ → List ℕ → Type 0
 SaysWhy folder None text = (rest : List ℕ) × (text ≡ folder ++ (codes ": " ++ rest))
 SaysWhy folder (Some patience) text =
-    (rest : List ℕ) × (text ≡ folder ++ (codes ": after " ++ (decimal patience ++ (codes " seconds " ++ rest))))
+    (rest : List ℕ) × (text
+    ≡ folder ++ (codes ": after " ++ (decimal patience ++ (codes " seconds " ++ rest))))
 
 -- an older ledger stays older
 abbrev pub waited_for : ℕ → Standing → Option ℕ

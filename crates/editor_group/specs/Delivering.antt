@@ -1,7 +1,8 @@
 -- Why a delivery ends before each command has its receipt.
 use Rattle.std.specs.Prelude.{◌≡◌, ◌⊎◌, ⊤, ℕ, List, ◌++◌, codes, decimal, string_bytes, slice_get, None, Some}
 use Rattle.editor_common.specs.declared.editor_fault.EditorFault.{EditorFault}
-use Rattle.editor_common.specs.declared.editor_fault.EditorFault.TheVariants.{Write, Stop, NoNodes, Clock, OutOfMemory}
+use Rattle.editor_common.specs.declared.editor_fault.EditorFault.TheVariants.{Write, Stop, NoNodes, Clock}
+use Rattle.editor_common.specs.declared.editor_fault.EditorFault.TheVariants.{OutOfMemory}
 use Rattle.editor_group.specs.declared.address.Address.{Address}
 use Rattle.editor_group.specs.declared.group.Group.{Group}
 
@@ -9,7 +10,8 @@ use Rattle.editor_group.specs.declared.group.Group.{Group}
 abbrev pub gave_up : ℕ → List ℕ
 gave_up patience =
     codes "no progress in "
-    ++ (decimal patience ++ codes " seconds: is a majority of the nodes running? Run it again, and it goes on")
+    ++ (decimal patience
+    ++ codes " seconds: is a majority of the nodes running? Run it again, and it goes on")
 
 -- the text names the node first
 abbrev pub NamesNode : Address → List ℕ → Type 0

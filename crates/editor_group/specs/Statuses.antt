@@ -1,5 +1,6 @@
 -- What is kept of a group's status, and the exit status.
-use Rattle.std.specs.Prelude.{◌≡◌, ◌⊎◌, ◌==◌, ◌&&◌, ⊤, ℕ, Bool, true, false, nat_le, if◌then◌else◌, codes, unwrap_or, List, [], ◌∷◌, length, Option, Some, None}
+use Rattle.std.specs.Prelude.{◌≡◌, ◌⊎◌, ◌==◌, ◌&&◌, ⊤, ℕ, Bool, true, false, nat_le, if◌then◌else◌, codes}
+use Rattle.std.specs.Prelude.{unwrap_or, List, [], ◌∷◌, length, Option, Some, None}
 use Rattle.serde_json.specs.Data.{Data, Members, null, boolean, number, unsigned, array, object, put}
 use Rattle.serde_json.specs.View.{items_of}
 use Rattle.site_ids.specs.declared.TheConstants.{MAX_INSTANCE}
@@ -75,8 +76,8 @@ pub record EndsStatus (n release status : ℕ) (now : Members) : Type 0 where
       (put (codes "commands_at_least") least told))
   pub status_is : status ≡ (if well && nat_le release last then 0 else 1)
 
--- why no status is told: one of the URLs names no node; or each names one, and a line could not be written, or the clock
--- not read, or an allocation failed
+-- why no status is told: one of the URLs names no node; or each names one, and a line could not be written,
+-- or the clock not read, or an allocation failed
 abbrev pub EndsTelling : {X : Type 0} → (X → List ℕ) → List X → EditorFault → Type 0
 EndsTelling url_of urls why =
     OneIsRefused url_of urls why ⊎ ((nodes : List Address) × AreNamed url_of urls nodes × IsOfTalk why)

@@ -145,9 +145,9 @@ fn converse(
     read_answers(alloc, stream, most, answers)
 }
 
-/// Asks a node all at once over a connection, and reads its answers, which come in the same order: until there
-/// are so many in all, the connection fails or ends, or one is waited for longer than so many milliseconds.
-/// Then the connection is closed, since it holds one of the node's 64 seats.
+/// Asks a node all at once over a connection, and reads its answers, which come in the same order: until
+/// there are so many in all, the connection fails or ends, or one is waited for longer than so many
+/// milliseconds. Then the connection is closed, since it holds one of the node's 64 seats.
 fn ask_once<N: Net<Stream = TcpStream>>(
     net: &N,
     alloc: Global,

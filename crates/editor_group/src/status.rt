@@ -1,9 +1,11 @@
 //! What each node of a group says of itself, told.
-ghost use Rattle.std.specs.Prelude.{◌≡◌, ◌==◌, ◌&&◌, nat_le, if◌then◌else◌, length, IfErr, IfOk, OnOk, Some, None};
+ghost use Rattle.std.specs.Prelude.{◌≡◌, ◌==◌, ◌&&◌, nat_le, if◌then◌else◌, length, IfErr, IfOk, OnOk, Some};
+ghost use Rattle.std.specs.Prelude.{None};
 ghost use Rattle.editor_common.specs.Faults.{IsOfTalk};
 ghost use Rattle.serde_json.specs.View.{view};
 ghost use Rattle.editor_common.specs.Outcomes.{kept};
-ghost use Rattle.editor_group.specs.Statuses.{is_well, EndsStatus, EndsTelling, IsNode, TellsCommands, TellsNodes};
+ghost use Rattle.editor_group.specs.Statuses.{is_well, EndsStatus, EndsTelling, IsNode, TellsCommands};
+ghost use Rattle.editor_group.specs.Statuses.{TellsNodes};
 
 use crate::group::Group;
 use crate::reports::{Published, Range, Report, range_of, reports_of};

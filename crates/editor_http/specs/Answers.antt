@@ -16,7 +16,8 @@ pub record IsAnswer (bytes : List ℕ) (status : ℕ) (body : List ℕ) : Type 0
   pub head : ResponseHead
   pub reads : ReadsResponse bytes head body
   pub status_is : status ≡ status_code head
-  pub stated : head_of (values_of (codes "content-length") (map name_and_value head.fields)) ≡ Some (decimal (length body))
+  pub stated : head_of (values_of (codes "content-length") (map name_and_value head.fields))
+      ≡ Some (decimal (length body))
 
 -- such an answer is read where it has few enough field lines and bytes
 pub record IsReadable (bytes : List ℕ) (status : ℕ) (body : List ℕ) : Type 0 where
@@ -27,12 +28,15 @@ pub record IsReadable (bytes : List ℕ) (status : ℕ) (body : List ℕ) : Type
 
 -- no beginning of the input is an answer that is read
 abbrev pub HasNone : List ℕ → Type 0
-HasNone input = (bytes rest : List ℕ) (status : ℕ) (body : List ℕ) → input ≡ bytes ++ rest → IsReadable bytes status body → ⊥
+HasNone input =
+    (bytes rest : List ℕ) (status : ℕ) (body : List ℕ) → input ≡ bytes ++ rest → IsReadable bytes status body
+    → ⊥
 
 abbrev pub IsOf : List ℕ → NodeAnswer → Type 0
 IsOf bytes answer = IsAnswer bytes answer.status answer.body.items
 
--- what is said of the bytes that are held: an answer is as many of them; none is there yet; none will be, whatever follows
+-- what is said of the bytes that are held: an answer is as many of them; none is there yet; none will be,
+-- whatever follows
 abbrev pub Sees : List ℕ → Look → Type 0
 Sees held (Whole answer n) = (n ≤ length held) × IsOf (take n held) answer
 Sees held Open = HasNone held

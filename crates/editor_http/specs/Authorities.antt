@@ -13,7 +13,8 @@ host_in text = if has_login text then after_first (λ b. b == 64) text else text
 
 -- a user, and after the first colon (58) a password, both without their escapes
 abbrev pub login_of : List ℕ → List ℕ × List ℕ
-login_of text = (percent_decode (before_first (λ b. b == 58) text), percent_decode (after_first (λ b. b == 58) text))
+login_of text =
+    (percent_decode (before_first (λ b. b == 58) text), percent_decode (after_first (λ b. b == 58) text))
 
 abbrev pub login_before : List ℕ → Option (List ℕ × List ℕ)
 login_before text = if has_login text then Some (login_of (before_first (λ b. b == 64) text)) else None

@@ -1,5 +1,6 @@
 -- The bytes of what is asked of a node (RFC 9112, section 3).
-use Rattle.std.specs.Prelude.{ℕ, Bool, if◌then◌else◌, List, [], ◌++◌, length, codes, Option, Some, None, string_bytes}
+use Rattle.std.specs.Prelude.{ℕ, Bool, if◌then◌else◌, List, [], ◌++◌, length, codes, Option, Some, None}
+use Rattle.std.specs.Prelude.{string_bytes}
 use Rattle.std.specs.Option.{option_map}
 use Rattle.std.specs.Fmt.{decimal}
 use Rattle.base64.specs.Engines.{standard}
@@ -27,12 +28,14 @@ authorization_of (Some login) = codes "Authorization: Basic " ++ (credentials_of
 -- the field lines of each request
 abbrev pub fields_of : Authority → Bool → List ℕ
 fields_of to last =
-    codes "Host: " ++ (string_bytes to.host ++ (codes "\r\n" ++ (authorization_of (option_map login_shown to.login) ++ closing last)))
+    codes "Host: " ++ (string_bytes to.host
+    ++ (codes "\r\n" ++ (authorization_of (option_map login_shown to.login) ++ closing last)))
 
 abbrev pub submit_request : List ℕ → Ticket → List ℕ → List ℕ
 submit_request fields ticket text =
     codes "POST /_submit/" ++ (decimal ticket.editor ++ (codes "/" ++ (decimal ticket.number
-    ++ (codes " HTTP/1.1\r\n" ++ (fields ++ (codes "Content-Length: " ++ (decimal (length text) ++ (codes "\r\n\r\n" ++ text))))))))
+    ++ (codes " HTTP/1.1\r\n"
+    ++ (fields ++ (codes "Content-Length: " ++ (decimal (length text) ++ (codes "\r\n\r\n" ++ text))))))))
 
 abbrev pub get_request : List ℕ → List ℕ → List ℕ
 get_request fields target = codes "GET " ++ (target ++ (codes " HTTP/1.1\r\n" ++ (fields ++ codes "\r\n")))

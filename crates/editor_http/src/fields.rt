@@ -32,8 +32,10 @@ fn first_named<'b>(bytes: &'b [u8], fields: &[HeaderSpan], name: &[u8]) -> Optio
 /// The length that the first Content-Length line states.
 pub(crate) fn stated_length(bytes: &[u8], fields: &[HeaderSpan]) -> Option<u64>
     requires { LieIn bytes.now fields.now }
-    ensures { MatchOption result ((n : ℕ) → n < 2 ^ 64 → head_of (values_of (codes "content-length") (covered bytes.now fields.now)) ≢ Some (decimal n))
-        (λ n. (n < 2 ^ 64) × (head_of (values_of (codes "content-length") (covered bytes.now fields.now)) ≡ Some (decimal n))) }
+    ensures { MatchOption result ((n : ℕ) → n < 2 ^ 64
+        → head_of (values_of (codes "content-length") (covered bytes.now fields.now)) ≢ Some (decimal n))
+        (λ n. (n < 2 ^ 64) × (head_of (values_of (codes "content-length") (covered bytes.now fields.now))
+        ≡ Some (decimal n))) }
 {
     read_number(first_named(bytes, fields, b"content-length")?)
 }

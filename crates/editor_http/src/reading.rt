@@ -17,16 +17,22 @@ use std::io::Read;
 /// The most bytes of an answer.
 pub(crate) const MOST: usize = 2_100_000;
 
-/// Reads the next answer of a connection. The feed is the connection's: what came ahead waits there for the next call.
+/// Reads the next answer of a connection. The feed is the connection's: what came ahead waits there for the
+/// next call.
 pub fn read_answer<R: Read>(
     alloc: Global,
     reader: &mut Counted<R>,
     feed: &mut Feed,
 ) -> Result<NodeAnswer, NodeAnswerFault>
-    ensures ok { IfOk result (Takes (prepend_known feed.old (R.remaining (inside reader.old))) (prepend_known feed.new (R.remaining (inside reader.new)))) }
-    ensures read { IsErrOf result NodeAnswerFault.Read → HasFailed (end_of R.remaining reader.old reader.new) }
-    ensures ended { IsErrOf result NodeAnswerFault.Ended → IsAtEnd (R.remaining (inside reader.new)) × IfSome (prepend_known feed.old (R.remaining (inside reader.old))) HasNone }
-    ensures never { IsErrOf result NodeAnswerFault.NoAnswer → IfSome (prepend_known feed.old (R.remaining (inside reader.old))) HasNone }
+    ensures ok { IfOk result (Takes (prepend_known feed.old (R.remaining (inside reader.old)))
+        (prepend_known feed.new (R.remaining (inside reader.new)))) }
+    ensures read { IsErrOf result NodeAnswerFault.Read
+        → HasFailed (end_of R.remaining reader.old reader.new) }
+    ensures ended { IsErrOf result NodeAnswerFault.Ended
+        → IsAtEnd (R.remaining (inside reader.new))
+        × IfSome (prepend_known feed.old (R.remaining (inside reader.old))) HasNone }
+    ensures never { IsErrOf result NodeAnswerFault.NoAnswer
+        → IfSome (prepend_known feed.old (R.remaining (inside reader.old))) HasNone }
 {
     loop {
         match seen_in(alloc, feed.held())? {

@@ -32,15 +32,19 @@ pub record IsTaken (candidate : Candidate) (file : SiteFile) : Type 0 where
 -- each file is taken or left out, in order
 pub data Sorts : List SiteFile → List Candidate → List LeftOut → Type 0 where
   no_file : Sorts [] [] []
-  one_taken : (files : List SiteFile) (taken : List Candidate) (left : List LeftOut) (file : SiteFile) (candidate : Candidate)
-      → Sorts files taken left → IsTaken candidate file → Sorts (files ++ file ∷ []) (taken ++ candidate ∷ []) left
-  one_left : (files : List SiteFile) (taken : List Candidate) (left : List LeftOut) (file : SiteFile) (out : LeftOut)
+  one_taken : (files : List SiteFile) (taken : List Candidate) (left : List LeftOut) (file : SiteFile)
+      (candidate : Candidate)
+      → Sorts files taken left → IsTaken candidate file
+      → Sorts (files ++ file ∷ []) (taken ++ candidate ∷ []) left
+  one_left : (files : List SiteFile) (taken : List Candidate) (left : List LeftOut) (file : SiteFile)
+      (out : LeftOut)
       → Sorts files taken left → IsLeft out file → Sorts (files ++ file ∷ []) taken (left ++ out ∷ [])
 
 -- one more file is taken or left out
 abbrev pub SortsAnother : Gathering → Gathering → SiteFile → Type 0
 SortsAnother before after file =
-    (files : List SiteFile) → Sorts files before.candidates.items before.left_out.items → Sorts (files ++ file ∷ []) after.candidates.items after.left_out.items
+    (files : List SiteFile) → Sorts files before.candidates.items before.left_out.items
+    → Sorts (files ++ file ∷ []) after.candidates.items after.left_out.items
 
 -- what is told as left out is just what is not taken
 abbrev pub IsImportOf : Imported → List SiteFile → Type 0

@@ -11,7 +11,9 @@ abbrev pub IsWhole : Parts → Type 0
 IsWhole url = (url.query ≡ None) × (url.fragment ≡ None)
 
 abbrev pub HasHostOf : Parts → Parts → Type 0
-HasHostOf own url = (option_map host_text (nonempty_host own) ≡ option_map host_text (nonempty_host url)) × (own.port ≡ url.port)
+HasHostOf own url =
+    (option_map host_text (nonempty_host own) ≡ option_map host_text (nonempty_host url))
+    × (own.port ≡ url.port)
 
 -- the URL is of the same host and names a page as a whole, whose path is this once decoded
 pub record IsAt (own url : Parts) (path : List ℕ) : Type 0 where
@@ -19,7 +21,8 @@ pub record IsAt (own url : Parts) (path : List ℕ) : Type 0 where
   pub whole : IsWhole url
   pub decoded : percent_decode url.path ≡ path
 
--- From the page at `from` of a site the address leads to the page at a path of the same site, as browsers read addresses (the URL Standard).
+-- From the page at `from` of a site the address leads to the page at a path of the same site, as browsers
+-- read addresses (the URL Standard).
 pub record Leads (site : Parts) (from address path : List ℕ) : Type 0 where
   pub page : Parts
   pub target : Parts

@@ -16,7 +16,8 @@ abbrev pub template_text : ImportedPage → List ℕ
 template_text p = codes "put template " ++ (string_bytes p.name ++ (codes "\n" ++ string_bytes p.template))
 
 abbrev pub route_text : ImportedPage → List ℕ
-route_text p = codes "put route " ++ (string_bytes p.path ++ (codes " " ++ (string_bytes p.name ++ codes " none\n")))
+route_text p =
+    codes "put route " ++ (string_bytes p.path ++ (codes " " ++ (string_bytes p.name ++ codes " none\n")))
 
 pub record IsPut (p : ImportedPage) : Type 0 where
   pub template : IsCommandText (template_text p)
@@ -44,4 +45,5 @@ pub record IsPageOf (p : ImportedPage) (file : SiteFile) : Type 0 where
 abbrev pub IsLeftOut : NotTaken → SiteFile → Type 0
 IsLeftOut Other file = ⊥
 IsLeftOut NoText file = ¬ (IsUtf8 file.bytes.items)
-IsLeftOut (NoCommand fault) file = (p : ImportedPage) × IsDraft p (string_bytes file.path) file.bytes.items × WhyNot p fault
+IsLeftOut (NoCommand fault) file =
+    (p : ImportedPage) × IsDraft p (string_bytes file.path) file.bytes.items × WhyNot p fault

@@ -16,8 +16,10 @@ carets page = repeat (count_by is_caret page + 1) (94 ∷ [])
 abbrev pub verbatim : List ℕ → List ℕ
 verbatim page = codes "{{=" ++ (carets page ++ (codes " " ++ (carets page ++ (codes "=}}\n" ++ page))))
 
--- The template can be read, and whatever partials and data there are, the page is what it renders to, if a page may be so long.
+-- The template can be read, and whatever partials and data there are, the page is what it renders to, if a
+-- page may be so long.
 pub record Shows (template page : List ℕ) : Type 0 where
   pub tree : Tree
   pub reads : tree_of template ≡ Ok tree
-  pub shows : (partials : Partials) (given : Whole) → rendering partials tree given ≡ within_limit (prints page)
+  pub shows : (partials : Partials) (given : Whole)
+      → rendering partials tree given ≡ within_limit (prints page)

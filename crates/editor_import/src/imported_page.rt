@@ -1,7 +1,8 @@
 //! A file of a generator's output as a page of a site.
 ghost use Rattle.std.specs.Prelude.{◌≡◌, IfOk, MatchOption, MatchResult, string_bytes};
 ghost use Rattle.editor_folder.specs.Texts.{IsCommandText};
-ghost use Rattle.editor_import.specs.Pages.{IsPageOf, IsPut, IsLeftOut, WhyNot, FaultOf, template_text, route_text};
+ghost use Rattle.editor_import.specs.Pages.{IsPageOf, IsPut, IsLeftOut, WhyNot, FaultOf, template_text};
+ghost use Rattle.editor_import.specs.Pages.{route_text};
 ghost use Rattle.editor_import.specs.Routes.{IsRoute};
 ghost use Rattle.editor_import.specs.Verbatim.{verbatim, Shows};
 
@@ -41,7 +42,8 @@ fn name_of(alloc: Global, file: &str) -> Result<String, AllocError> {
 
 /// Why the template of a page can't be put.
 fn template_fault(alloc: Global, page: &ImportedPage) -> Result<Option<CommandFault>, AllocError>
-    ensures { IfOk result (λ o. MatchOption o (IsCommandText (template_text page.now)) (FaultOf (template_text page.now))) }
+    ensures { IfOk result (λ o. MatchOption o (IsCommandText (template_text page.now))
+        (FaultOf (template_text page.now))) }
 {
     let (name, template) = (page.name.as_str(), page.template.as_str());
     let text = format!(in alloc; "put template {name}\n{template}")?;
@@ -53,7 +55,8 @@ fn template_fault(alloc: Global, page: &ImportedPage) -> Result<Option<CommandFa
 
 /// Why the route of a page can't be put.
 fn route_fault(alloc: Global, page: &ImportedPage) -> Result<Option<CommandFault>, AllocError>
-    ensures { IfOk result (λ o. MatchOption o (IsCommandText (route_text page.now)) (FaultOf (route_text page.now))) }
+    ensures { IfOk result (λ o. MatchOption o (IsCommandText (route_text page.now))
+        (FaultOf (route_text page.now))) }
 {
     let (path, name) = (page.path.as_str(), page.name.as_str());
     let text = format!(in alloc; "put route {path} {name} {DATA}\n")?;

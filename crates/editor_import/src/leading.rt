@@ -1,5 +1,6 @@
 //! Which path of the same site an address is.
-ghost use Rattle.std.specs.Prelude.{◌≡◌, ◌↔◌, ℕ, List, Some, Ok, IfOk, MatchOption, string_bytes, IsTrue, IsUtf8};
+ghost use Rattle.std.specs.Prelude.{◌≡◌, ◌↔◌, ℕ, List, Some, Ok, IfOk, MatchOption, string_bytes, IsTrue};
+ghost use Rattle.std.specs.Prelude.{IsUtf8};
 ghost use Rattle.percent_encoding.specs.Percent.{percent_decode as decoded_form};
 ghost use Rattle.url.specs.Parser.{parse_url};
 ghost use Rattle.url.specs.Parts.{Parts};
@@ -10,9 +11,12 @@ use percent_encoding::{percent_decode, utf8_percent_encode};
 use std::alloc::{AllocError, Global};
 use url::{ParseError, Url};
 
-/// The URL that an address gives from another one, if it is one. One of 4 GB is as one for which memory lacks.
+/// The URL that an address gives from another one, if it is one. One of 4 GB is as one for which memory
+/// lacks.
 fn joined(from: &Url, address: &str) -> Result<Option<Url>, AllocError>
-    ensures { IfOk result (λ o. MatchOption o ((url : Parts) → ¬ (parse_url (Some from.now) address.now ≡ Ok url)) (λ url. parse_url (Some from.now) address.now ≡ Ok url)) }
+    ensures { IfOk result (λ o. MatchOption o
+        ((url : Parts) → ¬ (parse_url (Some from.now) address.now ≡ Ok url))
+        (λ url. parse_url (Some from.now) address.now ≡ Ok url)) }
 {
     match from.join(address) {
         Ok(url) => Ok(Some(url)),
@@ -37,7 +41,8 @@ fn has_host_of(own: &Url, url: &Url) -> bool
 
 /// The text decoded once, if that is text again.
 fn decoded(alloc: Global, text: &str) -> Result<Option<String>, AllocError>
-    ensures { IfOk result (λ o. MatchOption o (¬ (IsUtf8 (decoded_form text.now))) (λ path. string_bytes path ≡ decoded_form text.now)) }
+    ensures { IfOk result (λ o. MatchOption o (¬ (IsUtf8 (decoded_form text.now)))
+        (λ path. string_bytes path ≡ decoded_form text.now)) }
 {
     let mut bytes = Vec::with_capacity(alloc, text.len())?;
     percent_decode(text.as_bytes()).append_to(&mut bytes)?;

@@ -31,4 +31,5 @@ subject_cmp s t = ordering_then (text_cmp s.0 t.0) (text_cmp s.1 t.1)
 -- under each kind and name a map has the first of the texts that is about them
 abbrev pub HasFirsts : BTreeMap (Lent × Lent) Lent → List (List ℕ) → Type 0
 HasFirsts firsts texts = (head : Head)
-    → option_map (λ t. t.now) (get subject_cmp firsts (head.kind, head.name)) ≡ find (λ t. is_about (head_view head) (head_of t)) texts
+    → option_map (λ t. t.now) (get subject_cmp firsts (head.kind, head.name))
+    ≡ find (λ t. is_about (head_view head) (head_of t)) texts

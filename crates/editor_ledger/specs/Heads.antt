@@ -1,5 +1,6 @@
 -- What a command is about, as its first line says it.
-use Rattle.std.specs.Prelude.{ℕ, List, [], ◌∷◌, ◌++◌, codes, ◌==◌, ◌&&◌, Bool, false, Option, Some, None, option_map, option_and_then}
+use Rattle.std.specs.Prelude.{ℕ, List, [], ◌∷◌, ◌++◌, codes, ◌==◌, ◌&&◌, Bool, false, Option, Some, None}
+use Rattle.std.specs.Prelude.{option_map, option_and_then}
 use Rattle.std.specs.List.{before_first}
 use Rattle.std.specs.Str.{bytes_eq}
 use Rattle.command.specs.Cuts.{cut_at}
@@ -17,7 +18,8 @@ head_with verb p = record { verb = verb; kind = p.0; name = before_first (λ b. 
 -- the words of the first line, parted by a space each; a release has none
 abbrev pub head_of : List ℕ → Option Head
 head_of text =
-    option_and_then (λ p. option_map (head_with p.0) (cut_at 32 p.1)) (cut_at 32 (before_first (λ b. b == 10) text))
+    option_and_then (λ p. option_map (head_with p.0) (cut_at 32 p.1))
+    (cut_at 32 (before_first (λ b. b == 10) text))
 
 -- the head has that kind and that name
 abbrev pub is_about : Head → Option Head → Bool

@@ -1,7 +1,9 @@
--- What happens to a ledger, one after the other, whatever is interrupted in between: an interruption leaves the ledger that was saved last.
+-- What happens to a ledger, one after the other, whatever is interrupted in between: an interruption leaves
+-- the ledger that was saved last.
 use Rattle.std.specs.Prelude.{ℕ, List, [], ◌∷◌}
 use Rattle.editor_ledger.specs.Books.{Book}
-use Rattle.editor_ledger.specs.Steps.{planned, planned_again, release_planned, received, released_again, logged, messaged}
+use Rattle.editor_ledger.specs.Steps.{planned, planned_again, release_planned, received, released_again}
+use Rattle.editor_ledger.specs.Steps.{logged, messaged}
 use Rattle.editor_ledger.specs.declared.released.Released.{Released}
 
 pub data Event : Type 0 where

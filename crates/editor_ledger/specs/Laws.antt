@@ -32,14 +32,17 @@ PlanTurns = (editor : ℕ) (events : List Event) (wanted : List (List ℕ)) (num
     → AreAbout wanted
     → (after_all (map receives numbers) (planned wanted (after_all events (fresh editor)))).sent ≡ []
     → (t : List ℕ) → is_put t ≡ true
-    → Contains (after_all (map receives numbers) (planned wanted (after_all events (fresh editor)))).kept t ↔ Contains wanted t
+    → Contains (after_all (map receives numbers) (planned wanted (after_all events (fresh editor)))).kept t
+    ↔ Contains wanted t
 
--- what stood with nothing on its way is known by its last ticket for ever, whatever is planned, interrupted and received later
+-- what stood with nothing on its way is known by its last ticket for ever, whatever is planned, interrupted
+-- and received later
 abbrev pub PastsStay : Type 0
 PastsStay = (editor : ℕ) (events more : List Event)
     → (after_all events (fresh editor)).sent ≡ []
     → (t : List ℕ) → is_put t ≡ true
-    → Contains (texts_at ((after_all events (fresh editor)).next - 1) (after_all more (after_all events (fresh editor)))) t
+    → Contains (texts_at ((after_all events (fresh editor)).next - 1)
+    (after_all more (after_all events (fresh editor)))) t
     ↔ Contains (after_all events (fresh editor)).kept t
 
 -- a text spells one ledger at most: what is read back is what was written

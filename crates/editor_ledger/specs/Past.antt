@@ -1,5 +1,6 @@
 -- The texts that stood at a ticket.
-use Rattle.std.specs.Prelude.{ℕ, ◌-◌, List, [], ◌∷◌, ◌++◌, filter, not, nat_lt, nat_le, ◌&&◌, if◌then◌else◌, Bool}
+use Rattle.std.specs.Prelude.{ℕ, ◌-◌, List, [], ◌∷◌, ◌++◌, filter, not, nat_lt, nat_le, ◌&&◌, if◌then◌else◌}
+use Rattle.std.specs.Prelude.{Bool}
 use Rattle.std.specs.List.{list_any, fold}
 use Rattle.editor_ledger.specs.Books.{Given, Book}
 use Rattle.editor_ledger.specs.Heads.{are_about_one}

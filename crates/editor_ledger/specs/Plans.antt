@@ -1,5 +1,6 @@
 -- What turns the texts that the group has into those that are wanted.
-use Rattle.std.specs.Prelude.{ℕ, List, ◌++◌, map, filter, find, not, ◌&&◌, ◌||◌, if◌then◌else◌, Option, Some, None, option_map, option_and_then}
+use Rattle.std.specs.Prelude.{ℕ, List, ◌++◌, map, filter, find, not, ◌&&◌, ◌||◌, if◌then◌else◌, Option, Some}
+use Rattle.std.specs.Prelude.{None, option_map, option_and_then}
 use Rattle.std.specs.List.{list_any, filter_map}
 use Rattle.std.specs.Str.{bytes_eq}
 use Rattle.editor_ledger.specs.Books.{Given}
@@ -11,7 +12,8 @@ missing kept wanted = filter (λ t. not (list_any (bytes_eq t) kept)) wanted
 
 -- the removal of what a head put, where no wanted text is about the same
 abbrev pub removal_by : List (List ℕ) → Head → Option (List ℕ)
-removal_by wanted head = if puts head && not (list_any (λ t. is_about head (head_of t)) wanted) then Some (removal head) else None
+removal_by wanted head =
+    if puts head && not (list_any (λ t. is_about head (head_of t)) wanted) then Some (removal head) else None
 
 abbrev pub removal_of : List (List ℕ) → List ℕ → Option (List ℕ)
 removal_of wanted text = option_and_then (removal_by wanted) (head_of text)
@@ -22,10 +24,11 @@ plan_of kept wanted = missing kept wanted ++ filter_map (removal_of wanted) kept
 
 -- the wanted texts that the group has not, or that are put again
 abbrev pub missing_or_again : List (List ℕ) → List (List ℕ) → List (List ℕ) → List (List ℕ)
-missing_or_again again kept wanted = filter (λ t. not (list_any (bytes_eq t) kept) || list_any (bytes_eq t) again) wanted
+missing_or_again again kept wanted =
+    filter (λ t. not (list_any (bytes_eq t) kept) || list_any (bytes_eq t) again) wanted
 
--- a plan that puts some of the wanted texts again, though the group has them by the ledger: another editor may have put
--- something in their place since
+-- a plan that puts some of the wanted texts again, though the group has them by the ledger: another editor
+-- may have put something in their place since
 abbrev pub plan_again : List (List ℕ) → List (List ℕ) → List (List ℕ) → List (List ℕ)
 plan_again again kept wanted = missing_or_again again kept wanted ++ filter_map (removal_of wanted) kept
 

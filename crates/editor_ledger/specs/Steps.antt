@@ -1,5 +1,6 @@
 -- What happens to a ledger.
-use Rattle.std.specs.Prelude.{ℕ, List, [], ◌∷◌, ◌++◌, length, filter, find, not, ◌+◌, ◌-◌, ◌==◌, nat_lt, ◌&&◌, if◌then◌else◌, Bool, Option, Some, None}
+use Rattle.std.specs.Prelude.{ℕ, List, [], ◌∷◌, ◌++◌, length, filter, find, not, ◌+◌, ◌-◌, ◌==◌, nat_lt, ◌&&◌}
+use Rattle.std.specs.Prelude.{if◌then◌else◌, Bool, Option, Some, None}
 use Rattle.std.specs.Str.{bytes_eq}
 use Rattle.editor_ledger.specs.Books.{Given, Book}
 use Rattle.editor_ledger.specs.Heads.{are_about_one, release_text}
@@ -43,7 +44,8 @@ planned_again again wanted book =
     else book
 
 abbrev pub release_planned : Book → Book
-release_planned book = if is_idle book && has_unshown book then with_tickets (release_text ∷ []) book else book
+release_planned book =
+    if is_idle book && has_unshown book then with_tickets (release_text ∷ []) book else book
 
 -- ---- receipts
 
@@ -81,4 +83,5 @@ logged released book = record book { log = book.log ++ released ∷ [] }
 
 -- a message is said of a release
 abbrev pub messaged : ℕ → List ℕ → Book → Book
-messaged release text book = record book { messages = book.messages ++ record { number = release; text = text } ∷ [] }
+messaged release text book =
+    record book { messages = book.messages ++ record { number = release; text = text } ∷ [] }

@@ -1,5 +1,6 @@
 -- How many texts are about each kind and name.
-use Rattle.std.specs.Prelude.{◌≡◌, ⊤, ℕ, ◌≤◌, List, ◌∷◌, ◌++◌, Bool, true, false, Option, Some, None, String, count_by}
+use Rattle.std.specs.Prelude.{◌≡◌, ⊤, ℕ, ◌≤◌, List, ◌∷◌, ◌++◌, Bool, true, false, Option, Some, None, String}
+use Rattle.std.specs.Prelude.{count_by}
 use Rattle.std.specs.BTreeMap.{BTreeMap, get_by_text}
 use Rattle.std.specs.declared.alloc.Global.{Global}
 use Rattle.editor_ledger.specs.Heads.{Head, head_of, is_about}
@@ -17,6 +18,8 @@ IsBounded None n = n ≡ 0
 IsBounded (Some false) n = n ≤ 1
 IsBounded (Some true) n = ⊤
 
--- the map says of each kind and name whether several of the texts may be about it; of one that it has not none is
+-- the map says of each kind and name whether several of the texts may be about it; of one that it has not
+-- none is
 abbrev pub Bounds : BTreeMap (String Global) Bool → List (List ℕ) → Type 0
-Bounds several texts = (head : Head) → IsBounded (get_by_text several (subject_text head)) (count_about head texts)
+Bounds several texts =
+    (head : Head) → IsBounded (get_by_text several (subject_text head)) (count_about head texts)

@@ -1,5 +1,6 @@
 //! Texts, found by themselves, and by what they are about.
-ghost use Rattle.std.specs.Prelude.{◌≡◌, ℕ, List, [], ◌∷◌, ◌++◌, map, find, option_map, IfOk, OnOk, string_bytes};
+ghost use Rattle.std.specs.Prelude.{◌≡◌, ℕ, List, [], ◌∷◌, ◌++◌, map, find, option_map, IfOk, OnOk};
+ghost use Rattle.std.specs.Prelude.{string_bytes};
 ghost use Rattle.std.specs.List.{list_any};
 ghost use Rattle.std.specs.Str.{bytes_eq};
 ghost use Rattle.editor_ledger.specs.Firsts.{HasTexts, HasFirsts};
@@ -36,7 +37,8 @@ pub(crate) fn is_in<'a>(set: &Texts<'a>, text: &'a str) -> bool
 
 /// Notes a text, unless one before is about the same.
 pub(crate) fn note<'a>(firsts: &mut Firsts<'a>, text: &'a str) -> Result<(), AllocError>
-    ensures { OnOk result ((texts : List (List ℕ)) → HasFirsts firsts.old texts → HasFirsts firsts.new (texts ++ text.now ∷ [])) }
+    ensures { OnOk result ((texts : List (List ℕ)) → HasFirsts firsts.old texts
+        → HasFirsts firsts.new (texts ++ text.now ∷ [])) }
 {
     if let Some(head) = head_of(text) {
         let subject = (head.kind, head.name);

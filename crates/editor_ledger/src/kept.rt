@@ -2,7 +2,8 @@
 //!
 //! A text about something that none was about is added without a look at the others; one about something that
 //! one at most is about takes its place, which is looked for from where the last one was found.
-ghost use Rattle.std.specs.Prelude.{◌≡◌, ◌≤◌, ℕ, List, ◌∷◌, [], ◌++◌, length, map, filter, not, Some, true, false, IfOk, OnOk, OnErr, string_bytes};
+ghost use Rattle.std.specs.Prelude.{◌≡◌, ◌≤◌, ℕ, List, ◌∷◌, [], ◌++◌, length, map, filter, not, Some, true};
+ghost use Rattle.std.specs.Prelude.{false, IfOk, OnOk, OnErr, string_bytes};
 ghost use Rattle.std.specs.BTreeMap.{get_by_text};
 ghost use Rattle.std.specs.Vec.{vec_capacity};
 ghost use Rattle.editor_ledger.specs.Heads.{head_of, is_about, are_about_one};
@@ -64,7 +65,8 @@ fn likely(texts: &[String], head: &Head<'_>, from: usize) -> usize {
 
 /// Takes out all texts about what a head names.
 fn take_all(kept: &mut Vec<String>, head: &Head<'_>)
-    ensures others { map string_bytes kept.new.items ≡ filter (λ t. not (is_about (head_view head.now) (head_of t))) (map string_bytes kept.old.items) }
+    ensures others { map string_bytes kept.new.items
+        ≡ filter (λ t. not (is_about (head_view head.now) (head_of t))) (map string_bytes kept.old.items) }
     ensures fewer { length kept.new.items ≤ length kept.old.items }
     ensures room { vec_capacity kept.new ≡ vec_capacity kept.old }
 {
@@ -74,7 +76,8 @@ fn take_all(kept: &mut Vec<String>, head: &Head<'_>)
 /// Takes out the text about what a head names, where one is at most; it stands at that place, or elsewhere.
 fn take_one(kept: &mut Vec<String>, head: &Head<'_>, at: usize)
     ensures others { count_about (head_view head.now) (map string_bytes kept.old.items) ≤ 1
-        → map string_bytes kept.new.items ≡ filter (λ t. not (is_about (head_view head.now) (head_of t))) (map string_bytes kept.old.items) }
+        → map string_bytes kept.new.items
+        ≡ filter (λ t. not (is_about (head_view head.now) (head_of t))) (map string_bytes kept.old.items) }
     ensures fewer { length kept.new.items ≤ length kept.old.items }
     ensures room { vec_capacity kept.new ≡ vec_capacity kept.old }
 {
@@ -87,8 +90,10 @@ fn take_one(kept: &mut Vec<String>, head: &Head<'_>, at: usize)
 
 /// Takes out what is about what a head names. Where it stood last is the answer.
 fn take_out(kept: &mut Vec<String>, head: &Head<'_>, several: bool, finger: usize) -> usize
-    ensures others { (several ≡ false → count_about (head_view head.now) (map string_bytes kept.old.items) ≤ 1)
-        → map string_bytes kept.new.items ≡ filter (λ t. not (is_about (head_view head.now) (head_of t))) (map string_bytes kept.old.items) }
+    ensures others { (several ≡ false → count_about (head_view head.now) (map string_bytes kept.old.items)
+        ≤ 1)
+        → map string_bytes kept.new.items
+        ≡ filter (λ t. not (is_about (head_view head.now) (head_of t))) (map string_bytes kept.old.items) }
     ensures fewer { length kept.new.items ≤ length kept.old.items }
     ensures room { vec_capacity kept.new ≡ vec_capacity kept.old }
 {
@@ -125,10 +130,13 @@ fn make_way(
     text: &str,
 ) -> Result<(), AllocError>
     ensures others { OnOk result (Bounds known.old (map string_bytes kept.old.items)
-        → map string_bytes kept.new.items ≡ filter (λ t. not (are_about_one text.now t)) (map string_bytes kept.old.items)) }
-    ensures bounds { OnOk result ((texts : List (List ℕ)) → Bounds known.old texts → Bounds known.new (with_text text.now texts)) }
+        → map string_bytes kept.new.items
+        ≡ filter (λ t. not (are_about_one text.now t)) (map string_bytes kept.old.items)) }
+    ensures bounds { OnOk result ((texts : List (List ℕ)) → Bounds known.old texts
+        → Bounds known.new (with_text text.now texts)) }
     ensures err { OnErr result (kept.new.items ≡ kept.old.items) }
-    ensures err_bounds { OnErr result ((texts : List (List ℕ)) → Bounds known.old texts → Bounds known.new texts) }
+    ensures err_bounds { OnErr result ((texts : List (List ℕ)) → Bounds known.old texts
+        → Bounds known.new texts) }
     ensures fewer { length kept.new.items ≤ length kept.old.items }
     ensures room { vec_capacity kept.new ≡ vec_capacity kept.old }
 {
@@ -143,7 +151,8 @@ fn make_way(
 
 /// Notes a text that comes behind the others.
 fn know_more(alloc: Global, known: &mut Several, text: &str) -> Result<(), AllocError>
-    ensures ok { OnOk result ((texts : List (List ℕ)) → Bounds known.old texts → Bounds known.new (texts ++ text.now ∷ [])) }
+    ensures ok { OnOk result ((texts : List (List ℕ)) → Bounds known.old texts
+        → Bounds known.new (texts ++ text.now ∷ [])) }
     ensures err { OnErr result ((texts : List (List ℕ)) → Bounds known.old texts → Bounds known.new texts) }
 {
     let Some(head) = head_of(text) else {

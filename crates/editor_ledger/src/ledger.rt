@@ -1,5 +1,6 @@
 //! What an editor keeps of its publications.
-ghost use Rattle.std.specs.Prelude.{◌≡◌, ◌≤◌, ◌<◌, ◌+◌, ◌^◌, length, map, true, Err, IfOk, OnOk, OnErr, string_bytes};
+ghost use Rattle.std.specs.Prelude.{◌≡◌, ◌≤◌, ◌<◌, ◌+◌, ◌^◌, length, map, true, Err, IfOk, OnOk, OnErr};
+ghost use Rattle.std.specs.Prelude.{string_bytes};
 ghost use Rattle.editor_ledger.specs.View.{given_view, past_view, message_view};
 
 use crate::fault::LedgerFault;
@@ -57,7 +58,9 @@ impl Model for Ledger {
 
 impl Ledger {
     ghost use Rattle.editor_ledger.specs.Books.{fresh};
-    ghost use Rattle.editor_ledger.specs.Steps.{is_idle, has_unshown, with_tickets, with_past, planned, planned_again, release_planned, noted, received, released_again, logged, messaged};
+    ghost use Rattle.editor_ledger.specs.Steps.{is_idle, has_unshown, with_tickets, with_past, planned};
+    ghost use Rattle.editor_ledger.specs.Steps.{planned_again, release_planned, noted, received};
+    ghost use Rattle.editor_ledger.specs.Steps.{released_again, logged, messaged};
     ghost use Rattle.editor_ledger.specs.Plans.{plan_of, plan_again};
 
     /// Of an editor that has published nothing.
@@ -171,7 +174,8 @@ impl Ledger {
     /// Gives the texts of a plan their tickets. What stood before each is kept.
     fn take_plan(&mut self, alloc: Global, texts: Vec<String>) -> Result<(), LedgerFault>
         ensures ok { OnOk result (self.new
-            ≡ with_tickets (map string_bytes texts.items) (with_past (map string_bytes texts.items) self.old)) }
+            ≡ with_tickets (map string_bytes texts.items)
+            (with_past (map string_bytes texts.items) self.old)) }
         ensures err { OnErr result (self.new ≡ self.old) }
         ensures tickets { result ≡ Err LedgerFault.NoTickets → 2 ^ 64 ≤ self.old.next + length texts.items }
     {
@@ -186,7 +190,8 @@ impl Ledger {
 
     /// The texts that a plan of these texts puts on their way.
     pub fn next_texts(&self, alloc: Global, wanted: &[&str]) -> Result<Vec<String>, AllocError>
-        ensures { IfOk result (λ v. map string_bytes v.items ≡ plan_of self.now.kept (map (λ t. t.now) wanted.now)) }
+        ensures { IfOk result (λ v. map string_bytes v.items
+            ≡ plan_of self.now.kept (map (λ t. t.now) wanted.now)) }
     {
         plan_of(alloc, self.kept.as_slice(), wanted)
     }
@@ -197,7 +202,8 @@ impl Ledger {
         requires { is_idle self.old ≡ true }
         ensures ok { OnOk result (self.new ≡ planned (map (λ t. t.now) wanted.now) self.old) }
         ensures err { OnErr result (self.new ≡ self.old) }
-        ensures tickets { result ≡ Err LedgerFault.NoTickets → 2 ^ 64 ≤ self.old.next + length (plan_of self.old.kept (map (λ t. t.now) wanted.now)) }
+        ensures tickets { result ≡ Err LedgerFault.NoTickets
+            → 2 ^ 64 ≤ self.old.next + length (plan_of self.old.kept (map (λ t. t.now) wanted.now)) }
     {
         let texts = plan_of(alloc, self.kept.as_slice(), wanted)?;
         self.take_plan(alloc, texts)
@@ -258,7 +264,8 @@ impl Ledger {
 
     /// The group has the text of the ticket.
     fn hold(&mut self, number: u64, text: String) -> Result<(), AllocError>
-        ensures ok { OnOk result (self.new ≡ noted (record { number = number; text = string_bytes text }) self.old) }
+        ensures ok { OnOk result (self.new
+            ≡ noted (record { number = number; text = string_bytes text }) self.old) }
         ensures err { OnErr result (self.new ≡ self.old) }
     {
         if text.as_str() == RELEASE {

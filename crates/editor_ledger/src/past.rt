@@ -50,7 +50,8 @@ fn others<'a>(
     kept: &'a [String],
     olds: &'a [String],
 ) -> Result<Vec<String>, AllocError>
-    ensures { IfOk result (λ v. map string_bytes v.items ≡ filter (λ t. not (is_among (map string_bytes olds.now) t)) (map string_bytes kept.now)) }
+    ensures { IfOk result (λ v. map string_bytes v.items
+        ≡ filter (λ t. not (is_among (map string_bytes olds.now) t)) (map string_bytes kept.now)) }
 {
     let firsts = firsts_of(alloc, olds)?;
     let mut texts = Vec::new(alloc);

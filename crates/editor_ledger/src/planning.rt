@@ -5,7 +5,8 @@
 ghost use Rattle.std.specs.Prelude.{◌≡◌, ℕ, List, map, option_map, IfOk, string_bytes};
 ghost use Rattle.std.specs.List.{filter_map};
 ghost use Rattle.editor_ledger.specs.Firsts.{HasFirsts};
-ghost use Rattle.editor_ledger.specs.Plans.{missing, missing_or_again, removal_of, plan_of, plan_again, before_text, overtaken};
+ghost use Rattle.editor_ledger.specs.Plans.{missing, missing_or_again, removal_of, plan_of, plan_again};
+ghost use Rattle.editor_ledger.specs.Plans.{before_text, overtaken};
 ghost use Rattle.editor_ledger.specs.View.{past_view};
 
 use crate::firsts::{Firsts, first_about, firsts_in, firsts_of, has_about, is_in, texts_in};
@@ -19,7 +20,8 @@ fn missing<'a>(
     kept: &'a [String],
     wanted: &'a [&'a str],
 ) -> Result<Vec<String>, AllocError>
-    ensures { IfOk result (λ v. map string_bytes v.items ≡ missing (map string_bytes kept.now) (map (λ t. t.now) wanted.now)) }
+    ensures { IfOk result (λ v. map string_bytes v.items
+        ≡ missing (map string_bytes kept.now) (map (λ t. t.now) wanted.now)) }
 {
     let had = texts_in(alloc, kept)?;
     let mut plan = Vec::new(alloc);
@@ -39,7 +41,8 @@ fn missing_or_again<'a>(
     again: &'a [String],
 ) -> Result<Vec<String>, AllocError>
     ensures { IfOk result (λ v. map string_bytes v.items
-        ≡ missing_or_again (map string_bytes again.now) (map string_bytes kept.now) (map (λ t. t.now) wanted.now)) }
+        ≡ missing_or_again (map string_bytes again.now) (map string_bytes kept.now)
+        (map (λ t. t.now) wanted.now)) }
 {
     let had = texts_in(alloc, kept)?;
     let anew = texts_in(alloc, again)?;
@@ -77,7 +80,8 @@ fn removals<'a>(
     kept: &'a [String],
     wanted: &'a [&'a str],
 ) -> Result<Vec<String>, AllocError>
-    ensures { IfOk result (λ v. map string_bytes v.items ≡ filter_map (removal_of (map (λ t. t.now) wanted.now)) (map string_bytes kept.now)) }
+    ensures { IfOk result (λ v. map string_bytes v.items
+        ≡ filter_map (removal_of (map (λ t. t.now) wanted.now)) (map string_bytes kept.now)) }
 {
     let named = firsts_in(alloc, wanted)?;
     let mut plan = Vec::new(alloc);
@@ -95,7 +99,8 @@ pub(crate) fn plan_of<'a>(
     kept: &'a [String],
     wanted: &'a [&'a str],
 ) -> Result<Vec<String>, AllocError>
-    ensures { IfOk result (λ v. map string_bytes v.items ≡ plan_of (map string_bytes kept.now) (map (λ t. t.now) wanted.now)) }
+    ensures { IfOk result (λ v. map string_bytes v.items
+        ≡ plan_of (map string_bytes kept.now) (map (λ t. t.now) wanted.now)) }
 {
     let mut plan = missing(alloc, kept, wanted)?;
     let mut gone = removals(alloc, kept, wanted)?;
@@ -144,7 +149,8 @@ pub(crate) fn overtaken<'a>(
     kept: &'a [String],
     plan: &'a [String],
 ) -> Result<Vec<Past>, AllocError>
-    ensures { IfOk result (λ v. map past_view v.items ≡ overtaken since (map string_bytes kept.now) (map string_bytes plan.now)) }
+    ensures { IfOk result (λ v. map past_view v.items
+        ≡ overtaken since (map string_bytes kept.now) (map string_bytes plan.now)) }
 {
     let firsts = firsts_of(alloc, kept)?;
     let mut past = Vec::new(alloc);

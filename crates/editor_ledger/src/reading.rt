@@ -271,7 +271,8 @@ impl Ledger {
     /// otherwise.
     pub fn read(alloc: Global, text: &str) -> Result<Ledger, LedgerReadFault>
         ensures ok { IfOk result (λ ledger. spelled ledger ≡ text.now) }
-        ensures old { result ≡ Err LedgerReadFault.Old ↔ starts_with nat_eq text.now (codes "editor ") ≡ true }
+        ensures old { result ≡ Err LedgerReadFault.Old
+            ↔ starts_with nat_eq text.now (codes "editor ") ≡ true }
     {
         if text.starts_with("editor ") {
             return Err(LedgerReadFault::Old);

@@ -1,4 +1,5 @@
-ghost use Rattle.std.specs.Prelude.{◌≡◌, ◌==◌, ◌+◌, ◌<◌, ◌^◌, length, map, filter, find, not, option_map, IfOk, string_bytes};
+ghost use Rattle.std.specs.Prelude.{◌≡◌, ◌==◌, ◌+◌, ◌<◌, ◌^◌, length, map, filter, find, not, option_map};
+ghost use Rattle.std.specs.Prelude.{IfOk, string_bytes};
 ghost use Rattle.editor_ledger.specs.Steps.{numbered};
 ghost use Rattle.editor_ledger.specs.View.{given_view};
 
@@ -31,14 +32,16 @@ pub(crate) fn numbered(
 
 /// What is on its way under a number.
 pub(crate) fn under(sent: &[Sent], number: u64) -> Option<&Sent>
-    ensures { option_map (λ s. given_view s.now) result ≡ find (λ g. g.number == number) (map given_view sent.now) }
+    ensures { option_map (λ s. given_view s.now) result
+        ≡ find (λ g. g.number == number) (map given_view sent.now) }
 {
     sent.iter().find(|sent| sent.number == number)
 }
 
 /// Takes what is under a number off its way.
 pub(crate) fn drop_under(sent: &mut Vec<Sent>, number: u64)
-    ensures { map given_view sent.new.items ≡ filter (λ g. not (g.number == number)) (map given_view sent.old.items) }
+    ensures { map given_view sent.new.items
+        ≡ filter (λ g. not (g.number == number)) (map given_view sent.old.items) }
 {
     sent.retain(|sent| sent.number != number);
 }

@@ -1,7 +1,9 @@
 //! A ledger as the text of a file.
 ghost use Rattle.std.specs.Prelude.{◌≡◌, map, IfOk, string_bytes};
 ghost use Rattle.std.specs.List.{flat_map};
-ghost use Rattle.editor_ledger.specs.Spelling.{front_lines, released_line, kept_entry, numbered_entry, sent_entry, past_entry, message_entry, body, last_line, sum_of, spelled};
+ghost use Rattle.editor_ledger.specs.Spelling.{front_lines, released_line, kept_entry, numbered_entry};
+ghost use Rattle.editor_ledger.specs.Spelling.{sent_entry, past_entry, message_entry, body, last_line};
+ghost use Rattle.editor_ledger.specs.Spelling.{sum_of, spelled};
 ghost use Rattle.editor_ledger.specs.View.{given_view, past_view, message_view};
 
 use crate::ledger::Ledger;
@@ -48,7 +50,8 @@ fn kept_entry(alloc: Global, text: &str) -> Result<String, AllocError>
 
 /// A text behind the line of a word, a number and its length.
 fn numbered_entry(alloc: Global, word: &str, number: u64, text: &str) -> Result<String, AllocError>
-    ensures { IfOk result (λ entry. string_bytes entry ≡ numbered_entry word.now (record { number = number; text = text.now })) }
+    ensures { IfOk result (λ entry. string_bytes entry
+        ≡ numbered_entry word.now (record { number = number; text = text.now })) }
 {
     let length = text.len();
     format!(in alloc; "{word} {number} {length}\n{text}\n")
@@ -97,7 +100,8 @@ fn past_entries(alloc: Global, past: &[Past]) -> Result<String, AllocError>
 }
 
 fn message_entries(alloc: Global, messages: &[Message]) -> Result<String, AllocError>
-    ensures { IfOk result (λ text. string_bytes text ≡ flat_map message_entry (map message_view messages.now)) }
+    ensures { IfOk result (λ text. string_bytes text
+        ≡ flat_map message_entry (map message_view messages.now)) }
 {
     let mut text = String::new(alloc);
     for message in messages {

@@ -1,5 +1,6 @@
 -- What the words of a command line mean, by what `clap` found of them.
-use Rattle.std.specs.Prelude.{◌≡◌, ℕ, List, [], map, option_map, unwrap_or, Bool, true, false, Option, Some, None, IfSome, codes}
+use Rattle.std.specs.Prelude.{◌≡◌, ℕ, List, [], map, option_map, unwrap_or, Bool, true, false, Option, Some}
+use Rattle.std.specs.Prelude.{None, IfSome, codes}
 use Rattle.std.specs.Str.Parse.{digits_value, without_leading_plus}
 use Rattle.clap.specs.Words.{first_value, matched_of, one_text, raw_values}
 use Rattle.clap.specs.declared.parser.matches.Found.{Found}
@@ -22,11 +23,13 @@ values_given found name = unwrap_or (option_map raw_values (matched_of found nam
 -- a number is the one that its digits spell; without a text there is none
 pub record IsNumber (found : Found) (name : List ℕ) (number : Option ℕ) : Type 0 where
   pub absent : one_text found name ≡ None → number ≡ None
-  pub spelled : (t : List ℕ) → one_text found name ≡ Some t → IfSome number (λ n. n ≡ digits_value 10 (without_leading_plus t))
+  pub spelled : (t : List ℕ) → one_text found name ≡ Some t
+      → IfSome number (λ n. n ≡ digits_value 10 (without_leading_plus t))
 
 -- the same, where some number stands for none
 abbrev pub IsNumberOr : Found → List ℕ → ℕ → ℕ → Type 0
-IsNumberOr found name other number = (given : Option ℕ) × IsNumber found name given × (number ≡ unwrap_or given other)
+IsNumberOr found name other number =
+    (given : Option ℕ) × IsNumber found name given × (number ≡ unwrap_or given other)
 
 -- what a publication was told
 pub record IsPublication (found : Found) (word : PublishWord) : Type 0 where

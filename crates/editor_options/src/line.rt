@@ -294,7 +294,8 @@ fn text<'a>(matches: &ArgMatches<'a>, id: &str) -> &'a str
 
 /// All that were given as a URL.
 fn urls<'a>(alloc: Global, matches: &ArgMatches<'a>) -> Result<Vec<&'a str>, AllocError>
-    ensures { IfOk result (λ urls. map (λ u. u.now) urls.items ≡ values_given (found_of matches.now) (codes "url")) }
+    ensures { IfOk result (λ urls. map (λ u. u.now) urls.items
+        ≡ values_given (found_of matches.now) (codes "url")) }
 {
     match matches.get_strs("url") {
         Some(given) => Vec::from_slice(alloc, given),

@@ -31,10 +31,11 @@ is_over now patience p = nat_le patience ((now - p.moved) / 1000)
 
 abbrev pub step_of : Came → ℕ → ℕ → DeliveryClock → Step
 step_of Receipt now patience p = Again 0
-step_of Answers now patience p = if is_over now patience p then GiveUp else (if turns Answers now p then Next else Again p.rest)
+step_of Answers now patience p =
+    if is_over now patience p then GiveUp else (if turns Answers now p then Next else Again p.rest)
 step_of Silence now patience p = if is_over now patience p then GiveUp else Next
 
--- how many milliseconds an exchange that begins now waits for an answer: as long as a node is stayed with, but no longer
--- than the seconds that are left
+-- how many milliseconds an exchange that begins now waits for an answer: as long as a node is stayed with,
+-- but no longer than the seconds that are left
 abbrev pub within_of : ℕ → ℕ → DeliveryClock → ℕ
 within_of now patience p = max 1 (min (STAYING / 1000) (patience - (now - p.moved) / 1000)) * 1000

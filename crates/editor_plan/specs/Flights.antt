@@ -1,5 +1,6 @@
 -- What is asked of a node for the commands on their way, and what its answers mean.
-use Rattle.std.specs.Prelude.{ℕ, ◌-◌, ◌==◌, nat_le, List, [], ◌∷◌, ◌++◌, length, map, filter, take, not, ◌&&◌, ◌||◌, if◌then◌else◌}
+use Rattle.std.specs.Prelude.{ℕ, ◌-◌, ◌==◌, nat_le, List, [], ◌∷◌, ◌++◌, length, map, filter, take, not, ◌&&◌}
+use Rattle.std.specs.Prelude.{◌||◌, if◌then◌else◌}
 use Rattle.std.specs.List.{list_any}
 use Rattle.editor_ledger.specs.Books.{Book}
 use Rattle.editor_ledger.specs.Steps.{received}
@@ -11,7 +12,8 @@ use Rattle.editor_plan.specs.declared.flight.Heard.TheVariants.{Received, Taken,
 
 -- what is on its way and was not taken, as far as there is room; all by the numbers of tickets
 abbrev pub submissions_of : List ℕ → List ℕ → List Ask
-submissions_of taken numbers = map Submit (take (ROOM - length taken) (filter (λ n. not (list_any (λ m. m == n) taken)) numbers))
+submissions_of taken numbers =
+    map Submit (take (ROOM - length taken) (filter (λ n. not (list_any (λ m. m == n) taken)) numbers))
 
 -- the receipts of what was taken, and then what was not
 abbrev pub asks_of : List ℕ → List ℕ → List Ask
@@ -36,5 +38,7 @@ after_hearing (Receipt number) status book = if status == 200 then received numb
 after_hearing (Submit number) status book = book
 
 abbrev pub flight_after : Ask → ℕ → List ℕ → List ℕ
-flight_after (Receipt number) status taken = if status == 200 then filter (λ n. not (n == number)) taken else taken
-flight_after (Submit number) status taken = if status == 200 || status == 202 then taken ++ number ∷ [] else taken
+flight_after (Receipt number) status taken =
+    if status == 200 then filter (λ n. not (n == number)) taken else taken
+flight_after (Submit number) status taken =
+    if status == 200 || status == 202 then taken ++ number ∷ [] else taken

@@ -1,5 +1,6 @@
 -- What is told of a delivery while it is under way, and when; all times in milliseconds since it began.
-use Rattle.std.specs.Prelude.{ℕ, ◌-◌, ◌/◌, ◌==◌, nat_le, nat_lt, Bool, true, false, not, ◌&&◌, if◌then◌else◌, Option, Some, None}
+use Rattle.std.specs.Prelude.{ℕ, ◌-◌, ◌/◌, ◌==◌, nat_le, nat_lt, Bool, true, false, not, ◌&&◌, if◌then◌else◌}
+use Rattle.std.specs.Prelude.{Option, Some, None}
 use Rattle.editor_plan.specs.declared.delivery_clock.Came.{Came}
 use Rattle.editor_plan.specs.declared.delivery_clock.Came.TheVariants.{Receipt, Answers, Silence}
 use Rattle.editor_plan.specs.declared.progress.TheConstants.{EACH, SILENCE, PARTS}
@@ -16,10 +17,11 @@ abbrev pub count_told : ℕ → ℕ → Progress → Option ℕ
 count_told now left p = if is_counted now (p.all - left) p then Some (p.all - left) else None
 
 abbrev pub after_count : ℕ → ℕ → Progress → Progress
-after_count now left p = if is_counted now (p.all - left) p then record p { told = p.all - left; at = now } else p
+after_count now left p =
+    if is_counted now (p.all - left) p then record p { told = p.all - left; at = now } else p
 
--- more than a sixteenth of all commands have their receipts since the ledger was saved last. So one delivery saves it
--- fifteen times at most, however many commands it has
+-- more than a sixteenth of all commands have their receipts since the ledger was saved last. So one delivery
+-- saves it fifteen times at most, however many commands it has
 abbrev pub is_kept : ℕ → Progress → Bool
 is_kept has p = nat_lt (p.all / PARTS) (has - p.kept)
 

@@ -1,5 +1,6 @@
 -- How a ledger stands to a group, by what nodes say.
-use Rattle.std.specs.Prelude.{ℕ, ◌-◌, ◌==◌, List, length, slice_get, Bool, true, false, not, ◌&&◌, ◌||◌, nat_lt, if◌then◌else◌, Option, Some, None}
+use Rattle.std.specs.Prelude.{ℕ, ◌-◌, ◌==◌, List, length, slice_get, Bool, true, false, not, ◌&&◌, ◌||◌}
+use Rattle.std.specs.Prelude.{nat_lt, if◌then◌else◌, Option, Some, None}
 use Rattle.std.specs.List.{list_any}
 use Rattle.editor_ledger.specs.Books.{Book}
 use Rattle.editor_ledger.specs.Steps.{is_idle}
@@ -7,7 +8,8 @@ use Rattle.editor_ledger.specs.declared.released.Released.{Released}
 use Rattle.editor_plan.specs.declared.told.Told.{Told}
 use Rattle.editor_plan.specs.declared.told.Told.TheVariants.{Given, Unknown, Nothing}
 use Rattle.editor_plan.specs.declared.standing.Standing.{Standing}
-use Rattle.editor_plan.specs.declared.standing.Standing.TheVariants.{Newest, Older, Elsewhere, Returning, Unanswered}
+use Rattle.editor_plan.specs.declared.standing.Standing.TheVariants.{Newest, Older, Elsewhere, Returning}
+use Rattle.editor_plan.specs.declared.standing.Standing.TheVariants.{Unanswered}
 use Rattle.editor_plan.specs.declared.standing.Witness.{Witness}
 
 abbrev pub told_by : Option ℕ → Told

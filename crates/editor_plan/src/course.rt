@@ -29,7 +29,8 @@ fn stage_of(ledger: &Ledger) -> Stage
 fn plan_texts(alloc: Global, ledger: &mut Ledger, wanted: &[&str]) -> Result<(), LedgerFault>
     ensures ok { OnOk result (ledger.new ≡ planned (map (λ t. t.now) wanted.now) ledger.old) }
     ensures err { OnErr result (ledger.new ≡ ledger.old) }
-    ensures tickets { IsErrOf result LedgerFault.NoTickets → LacksTickets (map (λ t. t.now) wanted.now) ledger.old }
+    ensures tickets { IsErrOf result LedgerFault.NoTickets
+        → LacksTickets (map (λ t. t.now) wanted.now) ledger.old }
 {
     if ledger.is_idle() {
         ledger.plan(alloc, wanted)?;
@@ -41,7 +42,8 @@ fn plan_texts(alloc: Global, ledger: &mut Ledger, wanted: &[&str]) -> Result<(),
 fn plan_next(alloc: Global, ledger: &mut Ledger, wanted: &[&str]) -> Result<(), LedgerFault>
     ensures ok { OnOk result (ledger.new ≡ advanced (map (λ t. t.now) wanted.now) ledger.old) }
     ensures err { OnErr result (ledger.new ≡ ledger.old) }
-    ensures tickets { IsErrOf result LedgerFault.NoTickets → LacksTickets (map (λ t. t.now) wanted.now) ledger.old }
+    ensures tickets { IsErrOf result LedgerFault.NoTickets
+        → LacksTickets (map (λ t. t.now) wanted.now) ledger.old }
 {
     plan_texts(alloc, ledger, wanted)?;
     if ledger.is_idle() {
@@ -56,9 +58,11 @@ fn plan_next(alloc: Global, ledger: &mut Ledger, wanted: &[&str]) -> Result<(), 
 pub fn advance(alloc: Global, ledger: &mut Ledger, wanted: &[&str]) -> Result<Stage, LedgerFault>
     ensures ok { OnOk result (ledger.new ≡ advanced (map (λ t. t.now) wanted.now) ledger.old) }
     ensures stage { IfOk result (λ stage. stage ≡ stage_of ledger.new) }
-    ensures done { IfOk result (λ stage. stage ≡ Stage.Done → IsDone (map (λ t. t.now) wanted.now) ledger.old ledger.new) }
+    ensures done { IfOk result (λ stage. stage ≡ Stage.Done
+        → IsDone (map (λ t. t.now) wanted.now) ledger.old ledger.new) }
     ensures err { OnErr result (ledger.new ≡ ledger.old) }
-    ensures tickets { IsErrOf result LedgerFault.NoTickets → LacksTickets (map (λ t. t.now) wanted.now) ledger.old }
+    ensures tickets { IsErrOf result LedgerFault.NoTickets
+        → LacksTickets (map (λ t. t.now) wanted.now) ledger.old }
 {
     plan_next(alloc, ledger, wanted)?;
     Ok(stage_of(ledger))

@@ -1,7 +1,8 @@
 //! What is asked of a node for the commands on their way, and what its answers mean.
 ghost use Rattle.std.specs.Prelude.{◌≡◌, ◌==◌, ℕ, List, [], ◌∷◌, ◌++◌, map, filter, not, IfOk, OnOk, OnErr};
 ghost use Rattle.std.specs.List.{list_any};
-ghost use Rattle.editor_plan.specs.Flights.{asks_of, submissions_of, submission_heard, receipt_heard, heard_of, after_hearing, flight_after};
+ghost use Rattle.editor_plan.specs.Flights.{asks_of, submissions_of, submission_heard, receipt_heard};
+ghost use Rattle.editor_plan.specs.Flights.{heard_of, after_hearing, flight_after};
 
 use editor_ledger::{Ledger, Sent};
 use std::alloc::{AllocError, Global};

@@ -1,6 +1,7 @@
 //! What is told of a delivery while it is under way, when, and when its ledger is saved meanwhile.
 ghost use Rattle.std.specs.Prelude.{◌≡◌};
-ghost use Rattle.editor_plan.specs.Progresses.{first_progress, is_counted, count_told, after_count, is_kept, after_keeping, falls_silent, after_exchange};
+ghost use Rattle.editor_plan.specs.Progresses.{first_progress, is_counted, count_told, after_count, is_kept};
+ghost use Rattle.editor_plan.specs.Progresses.{after_keeping, falls_silent, after_exchange};
 
 use crate::delivery_clock::Came;
 

@@ -1,7 +1,8 @@
 //! Whether a ledger is the newest of its editor, by what nodes say.
 ghost use Rattle.std.specs.Prelude.{◌≡◌};
 ghost use Rattle.std.specs.List.{list_any};
-ghost use Rattle.editor_plan.specs.Standings.{last_ticket, last_shown, is_behind, is_elsewhere, is_given, is_unknown, confirms, standing_of};
+ghost use Rattle.editor_plan.specs.Standings.{last_ticket, last_shown, is_behind, is_elsewhere, is_given};
+ghost use Rattle.editor_plan.specs.Standings.{is_unknown, confirms, standing_of};
 
 use crate::told::Told;
 use editor_ledger::Ledger;

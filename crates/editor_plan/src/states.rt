@@ -51,7 +51,8 @@ fn texts_at_each(
     ledger: &Ledger,
     tickets: &[u64],
 ) -> Result<Vec<Vec<String>>, AllocError>
-    ensures { IfOk result (λ v. map (λ t. map string_bytes t.items) v.items ≡ map (λ t. texts_at t ledger.now) tickets.now) }
+    ensures { IfOk result (λ v. map (λ t. map string_bytes t.items) v.items
+        ≡ map (λ t. texts_at t ledger.now) tickets.now) }
 {
     let mut states = Vec::new(alloc);
     for ticket in tickets {

@@ -14,4 +14,5 @@ shown_at (Faults text) path = Some (in_place 500 (string_bytes text))
 
 -- the folder as it was read is all there is, under its number
 abbrev pub page_in : Previewed → ℕ → List ℕ → Option Page
-page_in previewed n path = if n == previewed.number then option_map (in_browser n path) (shown_at previewed.shown path) else None
+page_in previewed n path =
+    if n == previewed.number then option_map (in_browser n path) (shown_at previewed.shown path) else None

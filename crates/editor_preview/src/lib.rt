@@ -1,8 +1,9 @@
 //! A folder of a site served to browsers as it is on disk, by what a node serves with.
 //!
-//! `previewed.rt` is the folder as a service, with what it shows (`shown.rt`) and the script that loads a page again (`script.rt`); `source.rt` reads
-//! the folder whenever its files look otherwise. `serving.rt` carries bytes between sockets and the connections of `visitor.rt` and `visitors.rt`: it
-//! is tested, not proved.
+//! `previewed.rt` is the folder as a service, with what it shows (`shown.rt`) and the script that loads a
+//! page again (`script.rt`); `source.rt` reads the folder whenever its files look otherwise. `serving.rt`
+//! carries bytes between sockets and the connections of `visitor.rt` and `visitors.rt`: it is tested, not
+//! proved.
 #![tactic(auto)]
 
 mod previewed;

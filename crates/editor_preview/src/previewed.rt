@@ -1,5 +1,6 @@
 //! A folder as a service: one release, of the folder as it was read; or what is wrong with it at each path.
-ghost use Rattle.std.specs.Prelude.{◌≡◌, ◌↔◌, ◌<◌, ◌-◌, ◌^◌, suc, string_bytes, Some, None, ⊤, IfOk, IsErrOf, IsTrue};
+ghost use Rattle.std.specs.Prelude.{◌≡◌, ◌↔◌, ◌<◌, ◌-◌, ◌^◌, suc, string_bytes, Some, None, ⊤, IfOk, IsErrOf};
+ghost use Rattle.std.specs.Prelude.{IsTrue};
 ghost use Rattle.release.specs.Standing.{answer_view};
 ghost use Rattle.editor_preview.specs.Previews.{page_in, shown_at};
 
@@ -10,7 +11,8 @@ use release::{Answer, AnswerFault};
 use site_ids::{Instance, Ticket};
 use std::alloc::Global;
 
-/// A folder as it was read, and how its files looked then (`seen`). Its number is another one, and larger, after each change.
+/// A folder as it was read, and how its files looked then (`seen`). Its number is another one, and larger,
+/// after each change.
 #[derive(Drop)]
 pub struct Previewed {
     number: u64,

@@ -6,8 +6,8 @@ ghost use Rattle.editor_preview.specs.Scripts.{in_browser, is_html as is_html_pa
 use release::Answer;
 use std::alloc::{AllocError, Global};
 
-/// What stands in the script before the number of what a page shows. Twice a second it asks for the newest number; where that is another
-/// one it loads the page again, or puts in its place what is wrong with it.
+/// What stands in the script before the number of what a page shows. Twice a second it asks for the newest
+/// number; where that is another one it loads the page again, or puts in its place what is wrong with it.
 pub(crate) const BEFORE: &str = "<script>
 (function (shown) {
   function put(text) {

@@ -8,7 +8,8 @@ use std::io::{self, Write};
 use std::net::{Net, SocketAddr, TcpListener, TcpStream};
 use std::rt::{Clock, Files};
 
-/// How many milliseconds pass before the folder is looked at again, where nobody asks for a page: so long a fault is not told.
+/// How many milliseconds pass before the folder is looked at again, where nobody asks for a page: so long a
+/// fault is not told.
 const LOOK: u64 = 300;
 
 /// How many milliseconds it rests where nothing came and nothing went.
@@ -80,8 +81,8 @@ fn serve<R: Files + Net<Stream = TcpStream> + Clock + AllocGlobal + Clone + Drop
     Ok(())
 }
 
-/// Serves a folder at an address, as it is on disk at each request; where it has a fault, what is wrong in place of each page. What is wrong is told
-/// whenever it is something else. It goes on until it is ended.
+/// Serves a folder at an address, as it is on disk at each request; where it has a fault, what is wrong in
+/// place of each page. What is wrong is told whenever it is something else. It goes on until it is ended.
 pub fn preview<
     R: Files + Net<Listener = TcpListener, Stream = TcpStream> + Clock + AllocGlobal + Clone + Drop,
     W: Write,

@@ -117,7 +117,8 @@ impl<'a> Source<'a> {
         Ok(Previewed::new(first_number(rt)?, seen, shown))
     }
 
-    /// Shows the folder as it is now. It is looked at before it is read: what is written meanwhile looks otherwise the next time.
+    /// Shows the folder as it is now. It is looked at before it is read: what is written meanwhile looks
+    /// otherwise the next time.
     pub(crate) fn show<R: Files + AllocGlobal + Clone + Drop, E: Write>(
         &mut self,
         rt: &R,

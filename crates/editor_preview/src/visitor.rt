@@ -9,7 +9,8 @@ use std::net::TcpStream;
 /// So many milliseconds a connection may stand still: a browser keeps some for what it asks next.
 const STILL: u64 = 60_000;
 
-/// A browser's connection with its stream, which does not wait, and when bytes came or went last, in milliseconds since the preview began.
+/// A browser's connection with its stream, which does not wait, and when bytes came or went last, in
+/// milliseconds since the preview began.
 #[derive(Drop)]
 pub(crate) struct Visitor {
     stream: Counted<TcpStream>,

@@ -5,7 +5,8 @@
 //! released. The other editor's release may show a part of these commands, as they came into the log one
 //! after another.
 ghost use Rattle.std.specs.Prelude.{◌≡◌, map, slice_get, IfOk, string_bytes};
-ghost use Rattle.editor_publish.specs.Taking.{shows_some, is_own, is_fresh, takes, taken_of, others_of, fresh_of};
+ghost use Rattle.editor_publish.specs.Taking.{shows_some, is_own, is_fresh, takes, taken_of, others_of};
+ghost use Rattle.editor_publish.specs.Taking.{fresh_of};
 
 use crate::comparing::shows;
 use crate::own::OwnTexts;

@@ -4,9 +4,9 @@
 //! whether the file `published` is the newest, what changed is sent and released, and `comparing.rt` looks
 //! whether the release shows the folder. `going_back.rt` is for a release of before. `taking_over.rt` reports
 //! what a publication would take over from others, `asked.rt` which paths are theirs, `own.rt` what is shown
-//! of the folder itself, `replacing.rt` what an interrupted run has replaced, `renewing.rt` which texts are put
-//! again then, `dry_run.rt` what one would send; `made.rt` reports the release that was made, and `ending.rt`
-//! has the status. What else is decided, `editor_plan` says; `editor_files` reads and saves,
+//! of the folder itself, `replacing.rt` what an interrupted run has replaced, `renewing.rt` which texts are
+//! put again then, `dry_run.rt` what one would send; `made.rt` reports the release that was made, and
+//! `ending.rt` has the status. What else is decided, `editor_plan` says; `editor_files` reads and saves,
 //! `editor_group` asks and sends.
 #![tactic(auto)]
 

@@ -53,7 +53,8 @@ fn write_input<W: Write>(
     }
 }
 
-/// Writes the commands of a folder as `siterender` reads them, and gives the exit status. Nothing is written of a folder with a fault, which is told.
+/// Writes the commands of a folder as `siterender` reads them, and gives the exit status. Nothing is written
+/// of a folder with a fault, which is told.
 pub fn frame<R: Files + AllocGlobal + Clone + Drop, W: Write, E: Write>(
     rt: &R,
     out: &mut W,

@@ -8,4 +8,6 @@ use Rattle.engine_common.specs.declared.body.Body.TheVariants as body
 abbrev pub IsBody : List ℕ → ℕ → Body → Type 0
 IsBody bytes len (body.Text text rest) = (length text.now ≡ len) × (bytes ≡ text.now ++ (10 ∷ rest.now))
 IsBody bytes len body.Short = length bytes ≤ len
-IsBody bytes len body.Bad = (text : List ℕ) × (end : ℕ) × (rest : List ℕ) × (length text ≡ len) × (bytes ≡ text ++ (end ∷ rest)) × (end ≢ 10)
+IsBody bytes len body.Bad =
+    (text : List ℕ) × (end : ℕ) × (rest : List ℕ) × (length text ≡ len) × (bytes ≡ text ++ (end ∷ rest))
+    × (end ≢ 10)

@@ -17,6 +17,7 @@ HasTaken reader = (more : List ℕ) × Consumes reader.before reader.after more
 
 abbrev pub ReadEnds : End → List ℕ → List ℕ → Result Bool InputFault → Type 0
 ReadEnds reader old new (Ok true) = Grown reader old new × IsSound reader × (length old < length new)
-ReadEnds reader old new (Ok false) = Grown reader old new × IsSound reader × IsAtEnd reader.after × (new ≡ old)
+ReadEnds reader old new (Ok false) =
+    Grown reader old new × IsSound reader × IsAtEnd reader.after × (new ≡ old)
 ReadEnds reader old new (Err input.Read) = HasTaken reader × HasFailed reader
 ReadEnds reader old new (Err input.OutOfMemory) = HasTaken reader

@@ -16,7 +16,8 @@ joined (word ∷ []) = word
 joined (word ∷ later) = word ++ (32 ∷ joined later)
 
 abbrev pub FitsSubmission : ℕ → Ticket → ℕ → Type 0
-FitsSubmission p ticket len = IsNode 9 p × (ticket.editor < 2 ^ 32) × (ticket.number < 2 ^ 64) × (len ≤ MAX_TEXT)
+FitsSubmission p ticket len =
+    IsNode 9 p × (ticket.editor < 2 ^ 32) × (ticket.number < 2 ^ 64) × (len ≤ MAX_TEXT)
 
 abbrev pub submission_numbers : SubmissionLine → List (List ℕ)
 submission_numbers s = numbers s.node s.ticket s.text_len

@@ -18,7 +18,8 @@ pub fn cut(bytes: &[u8], at: u8) -> Option<(&[u8], &[u8])>
 
 /// A number as it is printed: no sign, and no zero in front of another digit.
 pub fn read_number(word: &[u8]) -> Option<u64>
-    ensures { MatchOption result ((n : ℕ) → n < 2 ^ 64 → word.now ≢ decimal n) (λ n. (n < 2 ^ 64) × (word.now ≡ decimal n)) }
+    ensures { MatchOption result ((n : ℕ) → n < 2 ^ 64 → word.now ≢ decimal n)
+        (λ n. (n < 2 ^ 64) × (word.now ≡ decimal n)) }
 {
     let Ok(text) = str::from_utf8(word) else {
         return None;

@@ -36,8 +36,10 @@ impl From<AllocError> for InputFault {
 pub fn read_all<R: Read>(alloc: Global, reader: &mut Counted<R>) -> Result<Vec<u8>, InputFault>
     ensures ok { IfOk result (λ v. IsRead (end_of R.remaining reader.old reader.new) v.items) }
     ensures read { IsErrOf result InputFault.Read → HasFailed (end_of R.remaining reader.old reader.new) }
-    ensures memory { IsErrOf result InputFault.OutOfMemory → IsSound (end_of R.remaining reader.old reader.new) }
-    ensures taken { (bytes : List ℕ) × Consumes (R.remaining (inside reader.old)) (R.remaining (inside reader.new)) bytes }
+    ensures memory { IsErrOf result InputFault.OutOfMemory
+        → IsSound (end_of R.remaining reader.old reader.new) }
+    ensures taken { (bytes : List ℕ) × Consumes (R.remaining (inside reader.old))
+        (R.remaining (inside reader.new)) bytes }
 {
     let mut bytes = Vec::new(alloc);
     let mut chunk = [0; CHUNK];

@@ -19,14 +19,16 @@ pub struct SubmissionLine {
 
 /// What follows a front.
 pub fn after<'a>(bytes: &'a [u8], front: &str) -> Option<&'a [u8]>
-    ensures { MatchOption result ((rest : List ℕ) → bytes.now ≢ front.now ++ rest) (λ rest. bytes.now ≡ front.now ++ rest.now) }
+    ensures { MatchOption result ((rest : List ℕ) → bytes.now ≢ front.now ++ rest)
+        (λ rest. bytes.now ≡ front.now ++ rest.now) }
 {
     bytes.strip_prefix(front.as_bytes())
 }
 
 /// The number of a node of any cluster.
 pub fn read_node(word: &[u8]) -> Option<NodeId>
-    ensures { MatchOption result ((p : ℕ) → IsNode 9 p → word.now ≢ decimal p) (λ p. IsNode 9 p × (word.now ≡ decimal p)) }
+    ensures { MatchOption result ((p : ℕ) → IsNode 9 p → word.now ≢ decimal p)
+        (λ p. IsNode 9 p × (word.now ≡ decimal p)) }
 {
     let number = u8::try_from(read_number(word)?).ok()?;
     let largest = Cluster::new(MAX_NODES)?;
@@ -35,7 +37,8 @@ pub fn read_node(word: &[u8]) -> Option<NodeId>
 
 /// The word after a front, and what follows its space.
 pub fn word_after<'a>(head: &'a [u8], front: &str) -> Option<(&'a [u8], &'a [u8])>
-    ensures { MatchOption result ((word rest : List ℕ) → Lacks 32 word → head.now ≢ front.now ++ (word ++ (32 ∷ rest)))
+    ensures { MatchOption result ((word rest : List ℕ) → Lacks 32 word
+        → head.now ≢ front.now ++ (word ++ (32 ∷ rest)))
         (λ p. Lacks 32 p.0.now × (head.now ≡ front.now ++ (p.0.now ++ (32 ∷ p.1.now)))) }
 {
     cut(after(head, front)?, b' ')
@@ -43,7 +46,8 @@ pub fn word_after<'a>(head: &'a [u8], front: &str) -> Option<(&'a [u8], &'a [u8]
 
 /// The node and the number of a line of three words.
 pub fn number_at_node(head: &[u8], front: &str) -> Option<(NodeId, u64)>
-    ensures { MatchOption result ((p n : ℕ) → IsNode 9 p → n < 2 ^ 64 → head.now ≢ front.now ++ (decimal p ++ (32 ∷ decimal n)))
+    ensures { MatchOption result ((p n : ℕ) → IsNode 9 p → n < 2 ^ 64
+        → head.now ≢ front.now ++ (decimal p ++ (32 ∷ decimal n)))
         (λ r. IsNode 9 r.0 × (r.1 < 2 ^ 64) × (head.now ≡ front.now ++ (decimal r.0 ++ (32 ∷ decimal r.1)))) }
 {
     let (word, number) = word_after(head, front)?;
@@ -53,7 +57,8 @@ pub fn number_at_node(head: &[u8], front: &str) -> Option<(NodeId, u64)>
 
 /// The numbers of a submission, after a front.
 pub fn submission_after(head: &[u8], front: &str) -> Option<SubmissionLine>
-    ensures { MatchOption result ((p : ℕ) (ticket : AbstractTicket) (len : ℕ) → FitsSubmission p ticket len → head.now ≢ front.now ++ joined (numbers p ticket len))
+    ensures { MatchOption result ((p : ℕ) (ticket : AbstractTicket) (len : ℕ) → FitsSubmission p ticket len
+        → head.now ≢ front.now ++ joined (numbers p ticket len))
         (λ s. submission_fits s × (head.now ≡ front.now ++ joined (submission_numbers s))) }
 {
     let (word, rest) = word_after(head, front)?;

@@ -6,7 +6,8 @@ use Rattle.clap.specs.declared.builder.action.ArgAction.TheVariants.{Set}
 
 -- `--NAME VALUE`, which has to be there
 abbrev pub required_rule : Text → Rule
-required_rule name = record (new_rule name) { long = Some name; value_names = 1; required = true; action = Some Set }
+required_rule name =
+    record (new_rule name) { long = Some name; value_names = 1; required = true; action = Some Set }
 
 -- `--NAME VALUE`, which may be there
 abbrev pub option_rule : Text → Rule
@@ -14,7 +15,14 @@ option_rule name = record (new_rule name) { long = Some name; value_names = 1; a
 
 -- `--NAME N`, which may be there, N a number below 2^64
 abbrev pub number_rule : Text → Rule
-number_rule name = record (new_rule name) { long = Some name; value_names = 1; parser = Some (Unsigned 0 18446744073709551615); action = Some Set }
+number_rule name =
+    record (new_rule name) {
+      long = Some name;
+      value_names = 1;
+      parser = Some
+          (Unsigned 0 18446744073709551615);
+      action = Some Set;
+    }
 
 -- a word by itself, which has to be there
 abbrev pub word_rule : Text → Rule

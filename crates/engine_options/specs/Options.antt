@@ -8,7 +8,9 @@ use Rattle.engine_options.specs.declared.render_line.RenderOptions.{RenderOption
 
 -- `siterender [--release N] PATH`
 abbrev pub render_app : App
-render_app = with_rule (with_rule (new_app (codes "siterender")) (number_rule (codes "release"))) (word_rule (codes "path"))
+render_app =
+    with_rule (with_rule (new_app (codes "siterender")) (number_rule (codes "release")))
+    (word_rule (codes "path"))
 
 abbrev pub words_of : List (String Global) → List (List ℕ)
 words_of words = map string_bytes words
@@ -16,7 +18,8 @@ words_of words = map string_bytes words
 -- no text gives no number, and a text the number that it spells
 abbrev pub IsNumberOf : Option (List ℕ) → Option ℕ → Type 0
 IsNumberOf None n = n ≡ None
-IsNumberOf (Some t) n = IsNumeral 10 (without_leading_plus t) × (n ≡ Some (digits_value 10 (without_leading_plus t)))
+IsNumberOf (Some t) n =
+    IsNumeral 10 (without_leading_plus t) × (n ≡ Some (digits_value 10 (without_leading_plus t)))
 
 -- the options are those that the matched rows hold
 pub record Gives (rows : List Row) (o : RenderOptions) : Type 0 where

@@ -1,5 +1,6 @@
 -- The command line of `sited`, by clap's definition of a simple command.
-use Rattle.std.specs.Prelude.{◌≡◌, ◌<◌, ℕ, Bool, pos, false, List, [], map, Option, Some, None, codes, unwrap_or}
+use Rattle.std.specs.Prelude.{◌≡◌, ◌<◌, ℕ, Bool, pos, false, List, [], map, Option, Some, None, codes}
+use Rattle.std.specs.Prelude.{unwrap_or}
 use Rattle.std.specs.Str.{bytes_eq}
 use Rattle.std.specs.Str.Parse.{IsNumeral, digits_value, without_leading_plus}
 use Rattle.clap.specs.Words.{App, Rule, Row, Text, new_app, new_rule, with_rule, first_of, one_of, all_of}
@@ -23,7 +24,8 @@ format_rule = record (new_rule (codes "format")) { long = Some (codes "format");
 
 -- `--above P:REACH`, any number of them
 abbrev pub above_rule : Rule
-above_rule = record (new_rule (codes "above")) { long = Some (codes "above"); value_names = 1; action = Some Append }
+above_rule =
+    record (new_rule (codes "above")) { long = Some (codes "above"); value_names = 1; action = Some Append }
 
 -- `--verbose`, which may be there
 abbrev pub verbose_rule : Rule
@@ -33,10 +35,15 @@ verbose_rule = record (new_rule (codes "verbose")) { long = Some (codes "verbose
 abbrev pub address_rule : Rule
 address_rule = record (new_rule (codes "address")) { value_names = 1; action = Some Append }
 
--- `sited --id P --record FILE --http ADDRESS --rounds R [--format] [--above P:REACH]... [--patience-ms N] [--serve-ms N] [--verbose] [ADDRESS]...`
+-- `sited --id P --record FILE --http ADDRESS --rounds R [--format] [--above P:REACH]... [--patience-ms N]
+-- [--serve-ms N] [--verbose] [ADDRESS]...`
 abbrev pub serve_app : App
-serve_app = with_rule (with_rule (with_rule (with_rule (with_rule (with_rule (with_rule (with_rule (with_rule (with_rule (new_app (codes "sited"))
-    id_rule) (required_rule (codes "record"))) (required_rule (codes "http"))) rounds_rule) format_rule) above_rule)
+serve_app =
+    with_rule (with_rule
+    (with_rule (with_rule
+    (with_rule (with_rule (with_rule (with_rule (with_rule (with_rule (new_app (codes "sited"))
+    id_rule) (required_rule (codes "record")))
+    (required_rule (codes "http"))) rounds_rule) format_rule) above_rule)
     (number_rule (codes "patience-ms"))) (number_rule (codes "serve-ms"))) verbose_rule) address_rule
 
 -- a flag is set if its text is `true`
@@ -46,7 +53,8 @@ is_set None = false
 
 -- a number below a bound is spelled
 abbrev pub SpellsBelow : ℕ → Option Text → Type 0
-SpellsBelow bound (Some t) = IsNumeral 10 (without_leading_plus t) × (digits_value 10 (without_leading_plus t) < bound)
+SpellsBelow bound (Some t) =
+    IsNumeral 10 (without_leading_plus t) × (digits_value 10 (without_leading_plus t) < bound)
 SpellsBelow bound None = ⊥
 
 -- the options are those that the matched rows hold

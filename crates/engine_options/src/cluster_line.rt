@@ -11,7 +11,8 @@ use std::alloc::Global;
 
 /// What the words give to `sitecluster`.
 fn cluster_matches<'a>(alloc: Global, words: &'a [String]) -> Result<ArgMatches<'a>, Error>
-    ensures taken { takes cluster_app (words_of words.entry.now) ≡ true → IfErr result (λ e. kind_of e ≡ ErrorKind.OutOfMemory) }
+    ensures taken { takes cluster_app (words_of words.entry.now) ≡ true
+        → IfErr result (λ e. kind_of e ≡ ErrorKind.OutOfMemory) }
     ensures refused { FailsBy (fault_of cluster_app (words_of words.entry.now)) result }
 {
     let does =
@@ -24,7 +25,8 @@ fn cluster_matches<'a>(alloc: Global, words: &'a [String]) -> Result<ArgMatches<
 
 /// Reads the words of a command line, the program's name first: no other word is taken.
 pub fn cluster_options(alloc: Global, words: &[String]) -> Result<(), Error>
-    ensures taken { takes cluster_app (words_of words.now) ≡ true → IfErr result (λ e. kind_of e ≡ ErrorKind.OutOfMemory) }
+    ensures taken { takes cluster_app (words_of words.now) ≡ true
+        → IfErr result (λ e. kind_of e ≡ ErrorKind.OutOfMemory) }
     ensures refused { FailsBy (fault_of cluster_app (words_of words.now)) result }
 {
     cluster_matches(alloc, words)?;

@@ -42,7 +42,8 @@ pub(crate) fn number_in(matches: &ArgMatches<'_>, id: &str) -> u32
 
 /// The number of an argument that may have one.
 pub(crate) fn some_number_in(matches: &ArgMatches<'_>, id: &str) -> Option<u64>
-    requires passed { (t : List ℕ) → one_text (found_of matches.now) id.now ≡ Some t → IsUnsignedIn 0 18446744073709551615 t }
+    requires passed { (t : List ℕ) → one_text (found_of matches.now) id.now ≡ Some t
+        → IsUnsignedIn 0 18446744073709551615 t }
     ensures { IsNumberOf (one_text (found_of matches.now) id.now) result }
 {
     matches.get_one::<u64>(id)
@@ -61,7 +62,8 @@ pub(crate) fn texts_in<'a>(
     matches: &ArgMatches<'a>,
     id: &str,
 ) -> Result<Vec<&'a str>, AllocError>
-    ensures { IfOk result (λ v. map (λ s. s.now) v.items ≡ unwrap_or (all_of id.now (rows_of (found_of matches.now))) []) }
+    ensures { IfOk result (λ v. map (λ s. s.now) v.items
+        ≡ unwrap_or (all_of id.now (rows_of (found_of matches.now))) []) }
 {
     match matches.get_strs(id) {
         Some(given) => Vec::from_slice(alloc, given),

@@ -63,7 +63,8 @@ fn tell<E: Write>(err: &mut Counted<E>, text: &str, status: u8) -> u8
 
 /// Says why on the other writer, and returns the exit status: 2, or 1 if an allocation fails.
 pub fn refuse<E: Write>(alloc: Global, err: &mut Counted<E>, why: &Misuse) -> u8
-    ensures { (said : List ℕ) × IsTold why.now said result × IsGiven (end_of E.contents err.old err.new) said }
+    ensures { (said : List ℕ) × IsTold why.now said result
+        × IsGiven (end_of E.contents err.old err.new) said }
 {
     match why {
         Misuse::NotUtf8 => tell(

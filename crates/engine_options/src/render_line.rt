@@ -1,6 +1,7 @@
 //! The command line of `siterender`.
 ghost use Rattle.std.specs.Prelude.{◌≡◌, ℕ, List, IfOk, IfErr, Some, true, is_some, codes};
-ghost use Rattle.clap.specs.Words.{found_of, first_value, one_text, rows_of, matches_of, takes, kind_of, FailsBy, fault_of, IsUnsignedIn};
+ghost use Rattle.clap.specs.Words.{found_of, first_value, one_text, rows_of, matches_of, takes, kind_of};
+ghost use Rattle.clap.specs.Words.{FailsBy, fault_of, IsUnsignedIn};
 ghost use Rattle.engine_options.specs.Options.{render_app, words_of, Gives};
 
 use crate::arguments::{number_option, word_argument};
@@ -18,11 +19,14 @@ pub struct RenderOptions<'a> {
 
 /// What the words give to the arguments of `siterender [--release N] PATH`.
 fn render_matches<'a>(alloc: Global, words: &'a [String]) -> Result<ArgMatches<'a>, Error>
-    ensures rows { IfOk result (λ m. rows_of (found_of m) ≡ matches_of render_app (words_of words.entry.now)) }
-    ensures taken { takes render_app (words_of words.entry.now) ≡ true → IfErr result (λ e. kind_of e ≡ ErrorKind.OutOfMemory) }
+    ensures rows { IfOk result (λ m. rows_of (found_of m)
+        ≡ matches_of render_app (words_of words.entry.now)) }
+    ensures taken { takes render_app (words_of words.entry.now) ≡ true
+        → IfErr result (λ e. kind_of e ≡ ErrorKind.OutOfMemory) }
     ensures refused { FailsBy (fault_of render_app (words_of words.entry.now)) result }
     ensures path { IfOk result (λ m. is_some (first_value (found_of m) (codes "path")) ≡ true) }
-    ensures release { IfOk result (λ m. (t : List ℕ) → one_text (found_of m) (codes "release") ≡ Some t → IsUnsignedIn 0 18446744073709551615 t) }
+    ensures release { IfOk result (λ m. (t : List ℕ) → one_text (found_of m) (codes "release") ≡ Some t
+        → IsUnsignedIn 0 18446744073709551615 t) }
 {
     let does =
         "Prints a page of the site whose commands come on standard input (sitepub frame writes them)";
@@ -46,7 +50,8 @@ fn render_matches<'a>(alloc: Global, words: &'a [String]) -> Result<ArgMatches<'
 /// Reads the words of a command line, the program's name first.
 pub fn render_options<'a>(alloc: Global, words: &'a [String]) -> Result<RenderOptions<'a>, Error>
     ensures given { IfOk result (Gives (matches_of render_app (words_of words.entry.now))) }
-    ensures taken { takes render_app (words_of words.entry.now) ≡ true → IfErr result (λ e. kind_of e ≡ ErrorKind.OutOfMemory) }
+    ensures taken { takes render_app (words_of words.entry.now) ≡ true
+        → IfErr result (λ e. kind_of e ≡ ErrorKind.OutOfMemory) }
     ensures refused { FailsBy (fault_of render_app (words_of words.entry.now)) result }
 {
     let matches = render_matches(alloc, words)?;

@@ -1,10 +1,12 @@
 //! The command line of `sited`.
 ghost use Rattle.std.specs.Prelude.{◌≡◌, ◌^◌, ℕ, List, Some, IfOk, IfErr, true, false, is_some, pos, codes};
 ghost use Rattle.clap.specs.Built.{TakesValue};
-ghost use Rattle.clap.specs.Words.{found_of, first_value, one_text, rows_of, rule_of, matches_of, takes, kind_of, FailsBy, fault_of, IsUnsignedIn, IsPlainArg};
+ghost use Rattle.clap.specs.Words.{found_of, first_value, one_text, rows_of, rule_of, matches_of, takes};
+ghost use Rattle.clap.specs.Words.{kind_of, FailsBy, fault_of, IsUnsignedIn, IsPlainArg};
 ghost use Rattle.clap.specs.declared.builder.value_parser.ValueParser.TheVariants.{Signed};
 ghost use Rattle.engine_options.specs.Options.{words_of};
-ghost use Rattle.engine_options.specs.ServeOptions.{serve_app, id_rule, rounds_rule, format_rule, above_rule, verbose_rule, address_rule, SpellsBelow, GivesServe};
+ghost use Rattle.engine_options.specs.ServeOptions.{serve_app, id_rule, rounds_rule, format_rule, above_rule};
+ghost use Rattle.engine_options.specs.ServeOptions.{verbose_rule, address_rule, SpellsBelow, GivesServe};
 
 use crate::arguments::{number_option, required_option};
 use crate::commands::described;
@@ -106,14 +108,17 @@ fn address_arguments<'a>(alloc: Global) -> Arg<'a>
 /// What the words give to the arguments of `sited`.
 fn serve_matches<'a>(alloc: Global, words: &'a [String]) -> Result<ArgMatches<'a>, Error>
     ensures rows { IfOk result (λ m. rows_of (found_of m) ≡ matches_of serve_app (words_of words.entry.now)) }
-    ensures taken { takes serve_app (words_of words.entry.now) ≡ true → IfErr result (λ e. kind_of e ≡ ErrorKind.OutOfMemory) }
+    ensures taken { takes serve_app (words_of words.entry.now) ≡ true
+        → IfErr result (λ e. kind_of e ≡ ErrorKind.OutOfMemory) }
     ensures refused { FailsBy (fault_of serve_app (words_of words.entry.now)) result }
     ensures id { IfOk result (λ m. SpellsBelow (2 ^ 8) (one_text (found_of m) (codes "id"))) }
     ensures file { IfOk result (λ m. is_some (first_value (found_of m) (codes "record")) ≡ true) }
     ensures http { IfOk result (λ m. is_some (first_value (found_of m) (codes "http")) ≡ true) }
     ensures rounds { IfOk result (λ m. SpellsBelow (2 ^ 32) (one_text (found_of m) (codes "rounds"))) }
-    ensures patience { IfOk result (λ m. (t : List ℕ) → one_text (found_of m) (codes "patience-ms") ≡ Some t → IsUnsignedIn 0 18446744073709551615 t) }
-    ensures serving { IfOk result (λ m. (t : List ℕ) → one_text (found_of m) (codes "serve-ms") ≡ Some t → IsUnsignedIn 0 18446744073709551615 t) }
+    ensures patience { IfOk result (λ m. (t : List ℕ) → one_text (found_of m) (codes "patience-ms") ≡ Some t
+        → IsUnsignedIn 0 18446744073709551615 t) }
+    ensures serving { IfOk result (λ m. (t : List ℕ) → one_text (found_of m) (codes "serve-ms") ≡ Some t
+        → IsUnsignedIn 0 18446744073709551615 t) }
 {
     let example =
         "Examples, server 1 of 3 on one machine. Once, for a new group:\n  sited --id 1 --record 1.record --format --http 127.0.0.1:8001 --rounds 0 127.0.0.1:7001 127.0.0.1:7002 127.0.0.1:7003\n\nEach later start:\n  sited --id 1 --record 1.record --http 127.0.0.1:8001 --rounds 4294967295 127.0.0.1:7001 127.0.0.1:7002 127.0.0.1:7003\n\nOnce, if server 1 is lost with its record, and '--inspect' prints 'reaches: 57' for server 2 and 'reaches: 60' for server 3:\n  sited --id 1 --record 1.record --format --above 2:57 --above 3:60 --http 127.0.0.1:8001 --rounds 0 127.0.0.1:7001 127.0.0.1:7002 127.0.0.1:7003\n\nsited --inspect FILE prints what a record holds, even while a server runs over it\nsited --version prints the program's version";
@@ -154,7 +159,8 @@ fn serve_matches<'a>(alloc: Global, words: &'a [String]) -> Result<ArgMatches<'a
 /// Reads the words of a command line, the program's name first.
 pub fn sited_options<'a>(alloc: Global, words: &'a [String]) -> Result<ServeOptions<'a>, Error>
     ensures given { IfOk result (GivesServe (matches_of serve_app (words_of words.entry.now))) }
-    ensures taken { takes serve_app (words_of words.entry.now) ≡ true → IfErr result (λ e. kind_of e ≡ ErrorKind.OutOfMemory) }
+    ensures taken { takes serve_app (words_of words.entry.now) ≡ true
+        → IfErr result (λ e. kind_of e ≡ ErrorKind.OutOfMemory) }
     ensures refused { FailsBy (fault_of serve_app (words_of words.entry.now)) result }
 {
     let matches = serve_matches(alloc, words)?;

@@ -1,6 +1,7 @@
 //! The command line of `sitesim`.
 ghost use Rattle.std.specs.Prelude.{◌≡◌, Some, IfOk, IfErr, true, is_some, codes};
-ghost use Rattle.clap.specs.Words.{found_of, first_value, rows_of, matches_of, takes, kind_of, FailsBy, fault_of};
+ghost use Rattle.clap.specs.Words.{found_of, first_value, rows_of, matches_of, takes, kind_of, FailsBy};
+ghost use Rattle.clap.specs.Words.{fault_of};
 ghost use Rattle.engine_options.specs.Options.{words_of};
 ghost use Rattle.engine_options.specs.SimOptions.{sim_app, NamesFile};
 
@@ -19,7 +20,8 @@ pub struct SimOptions<'a> {
 /// What the words give to the argument of `sitesim FILE`.
 fn sim_matches<'a>(alloc: Global, words: &'a [String]) -> Result<ArgMatches<'a>, Error>
     ensures rows { IfOk result (λ m. rows_of (found_of m) ≡ matches_of sim_app (words_of words.entry.now)) }
-    ensures taken { takes sim_app (words_of words.entry.now) ≡ true → IfErr result (λ e. kind_of e ≡ ErrorKind.OutOfMemory) }
+    ensures taken { takes sim_app (words_of words.entry.now) ≡ true
+        → IfErr result (λ e. kind_of e ≡ ErrorKind.OutOfMemory) }
     ensures refused { FailsBy (fault_of sim_app (words_of words.entry.now)) result }
     ensures file { IfOk result (λ m. is_some (first_value (found_of m) (codes "file")) ≡ true) }
 {
@@ -39,7 +41,8 @@ fn sim_matches<'a>(alloc: Global, words: &'a [String]) -> Result<ArgMatches<'a>,
 /// Reads the words of a command line, the program's name first.
 pub fn sim_options<'a>(alloc: Global, words: &'a [String]) -> Result<SimOptions<'a>, Error>
     ensures given { IfOk result (NamesFile (matches_of sim_app (words_of words.entry.now))) }
-    ensures taken { takes sim_app (words_of words.entry.now) ≡ true → IfErr result (λ e. kind_of e ≡ ErrorKind.OutOfMemory) }
+    ensures taken { takes sim_app (words_of words.entry.now) ≡ true
+        → IfErr result (λ e. kind_of e ≡ ErrorKind.OutOfMemory) }
     ensures refused { FailsBy (fault_of sim_app (words_of words.entry.now)) result }
 {
     let matches = sim_matches(alloc, words)?;

@@ -25,7 +25,9 @@ pub fn tell_version<W: Write>(
     out: &mut Counted<W>,
     name: &str,
 ) -> Result<u8, AllocError>
-    ensures told { IfOk result (λ status. ((status ≡ 0) × IsWritten (end_of W.contents out.old out.new) (version_line name.now)) ⊎ ((status ≡ 1) × IsBroken (end_of W.contents out.old out.new) (version_line name.now))) }
+    ensures told { IfOk result (λ status. ((status ≡ 0)
+        × IsWritten (end_of W.contents out.old out.new) (version_line name.now))
+        ⊎ ((status ≡ 1) × IsBroken (end_of W.contents out.old out.new) (version_line name.now))) }
     ensures err { OnErr result (IsSilent (end_of W.contents out.old out.new)) }
 {
     let line = format!(in alloc; "{name} 1.0\n")?;

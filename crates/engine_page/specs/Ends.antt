@@ -42,4 +42,5 @@ pub record Refused (reader out err : End) (asked : Option ℕ) (path : List ℕ)
 -- one page or one line, and the status that goes with it
 abbrev pub HasRun : End → End → End → Option ℕ → List ℕ → ℕ → Type 0
 HasRun reader out err asked path status =
-    Shown reader out err asked path status ⊎ Broken reader out err asked path status ⊎ Refused reader out err asked path status
+    Shown reader out err asked path status ⊎ Broken reader out err asked path status
+    ⊎ Refused reader out err asked path status

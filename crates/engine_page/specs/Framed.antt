@@ -12,7 +12,9 @@ pub record FramedCommand : Type 0 where
 
 -- its frame: a line with the ticket's two numbers and the text's length, and then the text
 abbrev pub frame : FramedCommand → List ℕ
-frame e = decimal e.ticket.editor ++ (32 ∷ (decimal e.ticket.number ++ (32 ∷ (decimal (length e.text) ++ (10 ∷ e.text)))))
+frame e =
+    decimal e.ticket.editor
+    ++ (32 ∷ (decimal e.ticket.number ++ (32 ∷ (decimal (length e.text) ++ (10 ∷ e.text)))))
 
 -- its numbers and its length are in range
 abbrev pub Fits : FramedCommand → Type 0
@@ -22,7 +24,8 @@ Fits e = (e.ticket.editor < 2 ^ 32) × (e.ticket.number < 2 ^ 64) × (length e.t
 abbrev pub HasNoFrame : List ℕ → Type 0
 HasNoFrame bytes = (e : FramedCommand) (rest : List ℕ) → Fits e → bytes ≢ frame e ++ rest
 
--- the input is the frames of these commands, at most as many as an input has, and then bytes with no frame at their front
+-- the input is the frames of these commands, at most as many as an input has, and then bytes with no frame at
+-- their front
 pub record Splits (input : List ℕ) (framed : List FramedCommand) (rest : List ℕ) : Type 0 where
   pub whole : input ≡ flat_map frame framed ++ rest
   pub each : AllByRecursion Fits framed

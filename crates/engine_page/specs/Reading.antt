@@ -1,5 +1,6 @@
 -- What an input reads as: the orders of its commands, or the line of its first fault.
-use Rattle.std.specs.Prelude.{ℕ, ◌≡◌, ◌<◌, ◌≤◌, ◌⊎◌, ◌+◌, List, [], ◌++◌, length, codes, decimal, Result, Ok, Err}
+use Rattle.std.specs.Prelude.{ℕ, ◌≡◌, ◌<◌, ◌≤◌, ◌⊎◌, ◌+◌, List, [], ◌++◌, length, codes, decimal, Result, Ok}
+use Rattle.std.specs.Prelude.{Err}
 use Rattle.std.specs.List.{flat_map, AllByRecursion, AllZip}
 use Rattle.command.specs.Action.{Order}
 use Rattle.command.specs.Reading.{value_reading}
@@ -20,7 +21,8 @@ abbrev pub fault_at : ℕ → List ℕ → List ℕ
 fault_at k fault = codes "input " ++ (decimal k ++ (codes ": " ++ (fault ++ codes "\n")))
 
 -- the input begins with the frames of these, and each text is a command's
-pub record Begins (input : List ℕ) (framed : List FramedCommand) (orders : List Order) (rest : List ℕ) : Type 0 where
+pub record Begins (input : List ℕ) (framed : List FramedCommand) (orders : List Order)
+    (rest : List ℕ) : Type 0 where
   pub whole : input ≡ flat_map frame framed ++ rest
   pub each : AllByRecursion Fits framed
   pub commands : AllZip HasOrder framed orders

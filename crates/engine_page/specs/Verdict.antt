@@ -28,4 +28,5 @@ pub record HasValues (input : List ℕ) (values : List (List ℕ)) : Type 0 wher
 abbrev pub IsVerdict : List ℕ → Option ℕ → List ℕ → Verdict → Type 0
 IsVerdict input release path verdict =
     ((line : List ℕ) × HasReading input (Err line) × (verdict ≡ says line))
-    ⊎ ((values : List (List ℕ)) × HasValues input values × (verdict ≡ or_no_release (answer values (asked values release) path)))
+    ⊎ ((values : List (List ℕ)) × HasValues input values
+    × (verdict ≡ or_no_release (answer values (asked values release) path)))

@@ -28,7 +28,8 @@ fn answered(
     release: Option<u64>,
     path: &str,
 ) -> Result<Outcome, AllocError>
-    ensures { IfOk result (λ o. verdict_view o ≡ or_no_release (answer releases.now (asked releases.now release) path.now)) }
+    ensures { IfOk result (λ o. verdict_view o
+        ≡ or_no_release (answer releases.now (asked releases.now release) path.now)) }
 {
     let n = release.unwrap_or(releases.newest());
     match releases.answer(n, path) {
@@ -70,7 +71,8 @@ pub fn siterender<R: Read, W: Write, E: Write>(
     release: Option<u64>,
     path: &str,
 ) -> u8
-    ensures { HasRun (end_of R.remaining reader.old reader.new) (end_of W.contents out.old out.new) (end_of E.contents err.old err.new) release path.now result }
+    ensures { HasRun (end_of R.remaining reader.old reader.new) (end_of W.contents out.old out.new)
+        (end_of E.contents err.old err.new) release path.now result }
 {
     let input = match read_all(alloc, reader) {
         Ok(input) => input,

@@ -25,7 +25,8 @@ pub(crate) struct Framed<'a> {
 }
 
 fn line_of(bytes: &[u8]) -> Option<Line<'_>>
-    ensures { MatchOption result ((w : Words) → ¬ HasWords bytes.now w) (λ l. HasWords bytes.now (line_view l)) }
+    ensures { MatchOption result ((w : Words) → ¬ HasWords bytes.now w)
+        (λ l. HasWords bytes.now (line_view l)) }
 {
     let (line, after) = cut(bytes, b'\n')?;
     let (editor, others) = cut(line, b' ')?;

@@ -34,7 +34,8 @@ fn feed_one(
 ) -> Result<Option<String>, AllocError>
     requires { length releases.old < MAX_COMMANDS }
     ensures { IfOk result (λ found. MatchOption found
-        (IsFed (framed_view framed.entry) releases.old releases.new) (λ line. IsFaultLine (framed_view framed.entry) place (string_bytes line))) }
+        (IsFed (framed_view framed.entry) releases.old releases.new)
+        (λ line. IsFaultLine (framed_view framed.entry) place (string_bytes line))) }
 {
     let value = write(alloc, framed.ticket, framed.text)?;
     if matches!(releases.feed(&value)?, Applied::NotACommand) {
@@ -51,7 +52,8 @@ fn feed_all(
     input: &[u8],
 ) -> Result<Option<String>, AllocError>
     requires { releases.old ≡ [] }
-    ensures { IfOk result (λ found. MatchOption found (HasValues input.now releases.new) (λ line. HasReading input.now (Err (string_bytes line)))) }
+    ensures { IfOk result (λ found. MatchOption found (HasValues input.now releases.new)
+        (λ line. HasReading input.now (Err (string_bytes line)))) }
 {
     let mut rest = input;
     while !rest.is_empty() {
@@ -82,7 +84,8 @@ pub(crate) fn fed(alloc: Global, input: &[u8]) -> Result<Input, AllocError>
 /// The line of a value that is no command, which is read once more for its fault.
 fn fault_at(alloc: Global, place: usize, value: &[u8]) -> Result<String, AllocError>
     requires { (order : Order) → value_reading value.now ≢ Ok order }
-    ensures { IfOk result (λ line. (fault : Fault) × (value_reading value.now ≡ Err fault) × (string_bytes line ≡ fault_at place (line_of fault))) }
+    ensures { IfOk result (λ line. (fault : Fault) × (value_reading value.now ≡ Err fault)
+        × (string_bytes line ≡ fault_at place (line_of fault))) }
 {
     match read(alloc, value) {
         Ok(_) => unreachable!(),
@@ -92,7 +95,8 @@ fn fault_at(alloc: Global, place: usize, value: &[u8]) -> Result<String, AllocEr
 
 fn fault_input(alloc: Global, k: usize, fault: &CommandFault) -> Result<String, AllocError>
     requires { fault.now ≢ CommandFault.OutOfMemory → HasLine fault.now }
-    ensures { IfOk result (λ line. (fault.now ≢ CommandFault.OutOfMemory) × (string_bytes line ≡ fault_at k (line_of fault.now))) }
+    ensures { IfOk result (λ line. (fault.now ≢ CommandFault.OutOfMemory)
+        × (string_bytes line ≡ fault_at k (line_of fault.now))) }
 {
     match fault {
         CommandFault::OutOfMemory => Err(AllocError),

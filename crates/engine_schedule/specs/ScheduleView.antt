@@ -8,7 +8,11 @@ use Rattle.engine_schedule.specs.declared.schedule.Found.TheVariants as found
 use Rattle.engine_schedule.specs.declared.schedule.FoundNodes.{FoundNodes}
 use Rattle.engine_schedule.specs.declared.schedule.FoundNodes.TheVariants as found_nodes
 use Rattle.engine_common.specs.declared.words.SubmissionLine.{SubmissionLine}
-use Rattle.engine_schedule.specs.Schedule.{Line, submit_line, tick_line, widen_line, ask_line, tell_line, keep_line, restart_line, replace_line, deliver_line, arm_line, crash_line, settle_line, quiet_line, show_line, get_line, trace_line, submit_words, Fits, spelled, HasNoLine, GetsNoLine, spelled_nodes, HasNoNodes, GetsNoNodes}
+use Rattle.engine_schedule.specs.Schedule.{Line, submit_line, tick_line, widen_line, ask_line, tell_line}
+use Rattle.engine_schedule.specs.Schedule.{keep_line, restart_line, replace_line, deliver_line, arm_line}
+use Rattle.engine_schedule.specs.Schedule.{crash_line, settle_line, quiet_line, show_line, get_line}
+use Rattle.engine_schedule.specs.Schedule.{trace_line, submit_words, Fits, spelled, HasNoLine, GetsNoLine}
+use Rattle.engine_schedule.specs.Schedule.{spelled_nodes, HasNoNodes, GetsNoNodes}
 
 abbrev pub line_view : Code → Line
 line_view (code.Submit node ticket text) = submit_line node ticket text.now

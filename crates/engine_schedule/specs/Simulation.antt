@@ -1,5 +1,6 @@
 -- What a schedule's lines do to a world, and what they print.
-use Rattle.std.specs.Prelude.{ℕ, zero, suc, ◌≡◌, ◌≢◌, ◌⊎◌, ◌≤◌, ◌+◌, List, [], ◌∷◌, ◌++◌, length, codes, decimal, Option, Some, None}
+use Rattle.std.specs.Prelude.{ℕ, zero, suc, ◌≡◌, ◌≢◌, ◌⊎◌, ◌≤◌, ◌+◌, List, [], ◌∷◌, ◌++◌, length, codes}
+use Rattle.std.specs.Prelude.{decimal, Option, Some, None}
 use Rattle.std.specs.List.{flat_map}
 use Rattle.command.specs.Effective.{effective}
 use Rattle.command.specs.Releases.{release_count}
@@ -9,7 +10,8 @@ use Rattle.node.specs.Nodes.{Value, Down, Node, IsKnownPrefix}
 use Rattle.release.specs.Page.{Page}
 use Rattle.site_ids.specs.Ids.{IsNode}
 use Rattle.world.specs.declared.event.Event.{Event}
-use Rattle.world.specs.declared.event.Event.TheVariants.{Submit, Tick, Widen, Ask, Tell, Deliver, Arm, Crash, Restart, Replace, Keep}
+use Rattle.world.specs.declared.event.Event.TheVariants.{Submit, Tick, Widen, Ask, Tell, Deliver, Arm, Crash}
+use Rattle.world.specs.declared.event.Event.TheVariants.{Restart, Replace, Keep}
 use Rattle.world.specs.declared.node_state.NodeState.{NodeState}
 use Rattle.world.specs.declared.node_state.NodeState.TheVariants as told
 use Rattle.world.specs.declared.world.World.{World as Code}
@@ -20,7 +22,10 @@ use Rattle.world.specs.Steps.{LeadsTo, Reached, IsAnswer}
 use Rattle.world.specs.Taking.{TakesAll, IsBad}
 use Rattle.world.specs.Telling.{mode_told}
 use Rattle.world.specs.Worlds.{World}
-use Rattle.engine_schedule.specs.Schedule.{Line, submit_line, tick_line, widen_line, ask_line, tell_line, keep_line, restart_line, replace_line, deliver_line, arm_line, crash_line, settle_line, quiet_line, show_line, get_line, trace_line}
+use Rattle.engine_schedule.specs.Schedule.{Line, submit_line, tick_line, widen_line, ask_line, tell_line}
+use Rattle.engine_schedule.specs.Schedule.{keep_line, restart_line, replace_line, deliver_line, arm_line}
+use Rattle.engine_schedule.specs.Schedule.{crash_line, settle_line, quiet_line, show_line, get_line}
+use Rattle.engine_schedule.specs.Schedule.{trace_line}
 use Rattle.engine_schedule.specs.Tracing.{message_line}
 use Rattle.engine_common.specs.Answers.{answer_lines}
 
@@ -30,7 +35,8 @@ pub record Moment : Type 0 where
   pub events : List Event
   pub settled : ℕ
 
--- the events are a schedule of the n nodes, and lead to the world. Each node has published all that it knows without a gap
+-- the events are a schedule of the n nodes, and lead to the world. Each node has published all that it knows
+-- without a gap
 pub record IsMoment (n : ℕ) (m : Moment) : Type 0 where
   pub whose : m.world.cluster ≡ n
   pub reached : Reached m.world m.events
@@ -77,14 +83,15 @@ pub record Settles (n : ℕ) (old new : Moment) : Type 0 where
   pub settled : new.settled ≡ old.settled + count
   pub none_left : length (messages_of new.world.sent.items) ≤ new.settled
 
--- Two ticks and 8 n deliveries at most, after which node p knows what was its first unknown instance, unless a device failed meanwhile. None outside of a
--- quiet state
+-- Two ticks and 8 n deliveries at most, after which node p knows what was its first unknown instance, unless
+-- a device failed meanwhile. None outside of a quiet state
 pub record TakesPlan (n : ℕ) (old : Moment) (p : ℕ) (new : Moment) : Type 0 where
   pub plan : List Event
   pub short : IsShort n plan
   pub none : (w : World) → IsWorldOf old.world w → ¬ IsQuiet n w p → plan ≡ []
   pub takes : Takes n old plan new
-  pub learns : (reached : Reached old.world old.events) → IsQuiet n reached.world p → AreUp n new.world → (u : World) → IsWorldOf new.world u → Learns n reached.world p u
+  pub learns : (reached : Reached old.world old.events) → IsQuiet n reached.world p → AreUp n new.world
+      → (u : World) → IsWorldOf new.world u → Learns n reached.world p u
   pub settled : new.settled ≡ old.settled
 
 -- ---- what is printed
@@ -94,17 +101,24 @@ state_word told.Up = codes "up"
 state_word told.Stopped = codes "stopped"
 state_word told.Down = codes "down"
 
--- the line of `show`: what the node does, how many values it knows without a gap, and how many releases they have
+-- the line of `show`: what the node does, how many values it knows without a gap, and how many releases they
+-- have
 pub record IsShown (m : Moment) (p : ℕ) (printed : List ℕ) : Type 0 where
   pub state : NodeState
   pub values : List Value
   pub state_is : (w : World) → IsWorldOf m.world w → (w.node p).mode ≡ mode_told state
   pub known : (w : World) → IsWorldOf m.world w → IsKnownPrefix (w.node p) values
-  pub printed_is : printed ≡ codes "node " ++ (decimal p ++ (codes ": " ++ (state_word state ++ (codes " known " ++ (decimal (length values) ++ (codes " newest " ++ (decimal (release_count (effective values)) ++ codes "\n")))))))
+  pub printed_is : printed ≡ codes "node "
+      ++ (decimal p ++ (codes ": "
+      ++ (state_word state
+      ++ (codes " known " ++ (decimal (length values)
+      ++ (codes " newest " ++ (decimal (release_count (effective values)) ++ codes "\n")))))))
 
 -- what the lines of `get` begin with
 abbrev pub got : ℕ → ℕ → List ℕ → List ℕ → List ℕ
-got p n path rest = codes "node " ++ (decimal p ++ (codes " release " ++ (decimal n ++ (codes " " ++ (path ++ (codes ": " ++ rest))))))
+got p n path rest =
+    codes "node " ++ (decimal p
+    ++ (codes " release " ++ (decimal n ++ (codes " " ++ (path ++ (codes ": " ++ rest))))))
 
 abbrev pub page_lines : Page → List ℕ
 page_lines page = answer_lines page.status page.body
@@ -148,7 +162,8 @@ abbrev pub Does : ℕ → Moment → Line → List ℕ → Moment → Type 0
 Does n old settle_line printed new = Settles n old new × (printed ≡ [])
 Does n old (quiet_line p) printed new = IsNode n p × TakesPlan n old p new × (printed ≡ [])
 Does n old (show_line p) printed new = IsNode n p × IsShown old p printed × (new ≡ old)
-Does n old (get_line p r path) printed new = IsNode n p × (IsPage old p r path printed ⊎ IsNoPage old p r path printed) × (new ≡ old)
+Does n old (get_line p r path) printed new =
+    IsNode n p × (IsPage old p r path printed ⊎ IsNoPage old p r path printed) × (new ≡ old)
 Does n old trace_line printed new = IsTraced old printed × (new ≡ old)
 Does n old line printed new = TakesOne n old line printed new
 
@@ -170,4 +185,5 @@ pub record IsBadEvent (n : ℕ) (m : Moment) (line : Line) : Type 0 where
 abbrev pub DoesAll : ℕ → Moment → List Line → List ℕ → Moment → Type 0
 DoesAll n old [] printed new = (printed ≡ []) × (new ≡ old)
 DoesAll n old (line ∷ lines) printed new =
-    (next : Moment) × (first : List ℕ) × (later : List ℕ) × Does n old line first next × (printed ≡ first ++ later) × DoesAll n next lines later new
+    (next : Moment) × (first : List ℕ) × (later : List ℕ) × Does n old line first next
+    × (printed ≡ first ++ later) × DoesAll n next lines later new

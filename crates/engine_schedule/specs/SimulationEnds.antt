@@ -4,7 +4,8 @@ use Rattle.std.specs.List.{flat_map, AllByRecursion}
 use Rattle.std.specs.Io.KnownBytes.{Consumes, IsAtEnd}
 use Rattle.http_read.specs.Bytes.{End, HasFailed, IsRead, IsSilent, IsWritten, IsBroken, IsGiven}
 use Rattle.site_ids.specs.Ids.{IsNode}
-use Rattle.engine_schedule.specs.Schedule.{Line, spelled, Fits, HasNoLine, GetsNoLine, spelled_nodes, HasNoNodes, GetsNoNodes}
+use Rattle.engine_schedule.specs.Schedule.{Line, spelled, Fits, HasNoLine, GetsNoLine, spelled_nodes}
+use Rattle.engine_schedule.specs.Schedule.{HasNoNodes, GetsNoNodes}
 use Rattle.engine_schedule.specs.Simulation.{Moment, IsMoment, DoesAll, AsksNone, IsBadEvent}
 use Rattle.engine_common.specs.Faults.{fault_at}
 
@@ -15,7 +16,8 @@ pub record IsStart (n : ℕ) (m : Moment) : Type 0 where
   pub settled : m.settled ≡ 0
 
 -- what was read is the first line, these lines and a rest, and the lines were done
-pub record HasDone (taken : List ℕ) (n : ℕ) (lines : List Line) (printed : List ℕ) (last : Moment) (rest : List ℕ) : Type 0 where
+pub record HasDone (taken : List ℕ) (n : ℕ) (lines : List Line) (printed : List ℕ) (last : Moment)
+    (rest : List ℕ) : Type 0 where
   pub node : IsNode 9 n
   pub fits : AllByRecursion Fits lines
   pub whole : taken ≡ spelled_nodes n ++ (flat_map spelled lines ++ rest)
@@ -50,7 +52,8 @@ HasBadLine reader n rest =
 
 -- the event of the line there can't be taken
 abbrev pub HasBadEvent : ℕ → Moment → List ℕ → Type 0
-HasBadEvent n m rest = (line : Line) × (more : List ℕ) × Fits line × (rest ≡ spelled line ++ more) × IsBadEvent n m line
+HasBadEvent n m rest =
+    (line : Line) × (more : List ℕ) × Fits line × (rest ≡ spelled line ++ more) × IsBadEvent n m line
 
 -- the fault's line. k is the line after those that were done: a bad line or event; or the reader failed; or
 -- an allocation failed
@@ -109,4 +112,6 @@ pub record Broken (reader out err : End) (status : ℕ) : Type 0 where
   pub status_is : status ≡ 1
 
 abbrev pub HasSimulated : End → End → End → ℕ → Type 0
-HasSimulated reader out err status = Finished reader out err status ⊎ NotBegun reader out err status ⊎ Stopped reader out err status ⊎ Broken reader out err status
+HasSimulated reader out err status =
+    Finished reader out err status ⊎ NotBegun reader out err status ⊎ Stopped reader out err status
+    ⊎ Broken reader out err status

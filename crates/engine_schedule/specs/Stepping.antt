@@ -1,5 +1,6 @@
 -- What the simulator's calls make of a world and of the bytes that were read.
-use Rattle.std.specs.Prelude.{ℕ, ◌≡◌, ◌≢◌, ◌⊎◌, List, [], ◌++◌, Bool, true, false, Option, Some, None, Result, Ok, Err, String, string_bytes, codes, ⊤}
+use Rattle.std.specs.Prelude.{ℕ, ◌≡◌, ◌≢◌, ◌⊎◌, List, [], ◌++◌, Bool, true, false, Option, Some, None, Result}
+use Rattle.std.specs.Prelude.{Ok, Err, String, string_bytes, codes, ⊤}
 use Rattle.std.specs.declared.alloc.Global.{Global}
 use Rattle.std.specs.Io.KnownBytes.{IsAtEnd}
 use Rattle.http_read.specs.Bytes.{End, HasFailed, IsSound}
@@ -27,12 +28,17 @@ moment_of s events = record { world = s.world; events = events; settled = s.sett
 
 -- after the line the events are some
 abbrev pub DoesTo : ℕ → Moment → Line → List ℕ → Simulation → Type 0
-DoesTo n old line printed new = (events : List Event) × IsMoment n (moment_of new events) × Does n old line printed (moment_of new events)
+DoesTo n old line printed new =
+    (events : List Event) × IsMoment n (moment_of new events) × Does n old line printed (moment_of new events)
 
 abbrev pub HappenEnds : Simulation → Simulation → Line → Result (String Global) SimFault → Type 0
-HappenEnds old new line (Ok text) = (n : ℕ) (events : List Event) → IsMoment n (moment_of old events) → DoesTo n (moment_of old events) line (string_bytes text) new
+HappenEnds old new line (Ok text) =
+    (n : ℕ) (events : List Event) → IsMoment n (moment_of old events)
+    → DoesTo n (moment_of old events) line (string_bytes text) new
 HappenEnds old new line (Err sim.BadLine) = AsksNone old.world.cluster line
-HappenEnds old new line (Err sim.BadEvent) = (n : ℕ) (events : List Event) → IsMoment n (moment_of old events) → IsBadEvent n (moment_of old events) line
+HappenEnds old new line (Err sim.BadEvent) =
+    (n : ℕ) (events : List Event) → IsMoment n (moment_of old events)
+    → IsBadEvent n (moment_of old events) line
 HappenEnds old new line (Err sim.OutOfMemory) = ⊤
 HappenEnds old new line (Err sim.Read) = ⊥
 
@@ -45,7 +51,8 @@ HasLine bytes = (line : Line) × (rest : List ℕ) × Fits line × (bytes ≡ sp
 abbrev pub FillEnds : End → List ℕ → List ℕ → Result Bool SimFault → Type 0
 FillEnds reader old new (Ok true) = Grown reader old new × IsSound reader × HasLine new
 FillEnds reader old new (Ok false) = Grown reader old new × IsSound reader × IsAtEnd reader.after × (new ≡ [])
-FillEnds reader old new (Err sim.BadLine) = Grown reader old new × ((IsAtEnd reader.after × HasNoLine new × (new ≢ [])) ⊎ GetsNoLine new)
+FillEnds reader old new (Err sim.BadLine) =
+    Grown reader old new × ((IsAtEnd reader.after × HasNoLine new × (new ≢ [])) ⊎ GetsNoLine new)
 FillEnds reader old new (Err sim.BadEvent) = ⊥
 FillEnds reader old new (Err sim.OutOfMemory) = HasTaken reader
 FillEnds reader old new (Err sim.Read) = HasTaken reader × HasFailed reader
@@ -53,20 +60,29 @@ FillEnds reader old new (Err sim.Read) = HasTaken reader × HasFailed reader
 -- ---- both
 
 -- a line was read and done
-pub record HasStepped (reader : End) (before after : Simulation) (old new : List ℕ) (text : List ℕ) : Type 0 where
+pub record HasStepped (reader : End) (before after : Simulation) (old new : List ℕ)
+    (text : List ℕ) : Type 0 where
   pub line : Line
   pub held : List ℕ
   pub grown : Grown reader old held
   pub sound : IsSound reader
   pub fits : Fits line
   pub whole : held ≡ spelled line ++ new
-  pub does : (n : ℕ) (events : List Event) → IsMoment n (moment_of before events) → DoesTo n (moment_of before events) line text after
+  pub does : (n : ℕ) (events : List Event) → IsMoment n (moment_of before events)
+      → DoesTo n (moment_of before events) line text after
 
-abbrev pub NextEnds : End → Simulation → Simulation → List ℕ → List ℕ → Result (Option (String Global)) SimFault → Type 0
-NextEnds reader before after old new (Ok (Some text)) = HasStepped reader before after old new (string_bytes text)
-NextEnds reader before after old new (Ok None) = Grown reader old [] × IsSound reader × IsAtEnd reader.after × (after ≡ before)
-NextEnds reader before after old new (Err sim.BadLine) = (held : List ℕ) × Grown reader old held × HasBadLine reader before.world.cluster held
-NextEnds reader before after old new (Err sim.BadEvent) = (held : List ℕ) × Grown reader old held × ((n : ℕ) (events : List Event) → IsMoment n (moment_of before events) → HasBadEvent n (moment_of before events) held)
+abbrev pub NextEnds : End → Simulation → Simulation → List ℕ → List ℕ
+    → Result (Option (String Global)) SimFault → Type 0
+NextEnds reader before after old new (Ok (Some text)) =
+    HasStepped reader before after old new (string_bytes text)
+NextEnds reader before after old new (Ok None) =
+    Grown reader old [] × IsSound reader × IsAtEnd reader.after × (after ≡ before)
+NextEnds reader before after old new (Err sim.BadLine) =
+    (held : List ℕ) × Grown reader old held × HasBadLine reader before.world.cluster held
+NextEnds reader before after old new (Err sim.BadEvent) =
+    (held : List ℕ) × Grown reader old held
+    × ((n : ℕ) (events : List Event) → IsMoment n (moment_of before events)
+    → HasBadEvent n (moment_of before events) held)
 NextEnds reader before after old new (Err sim.OutOfMemory) = HasTaken reader
 NextEnds reader before after old new (Err sim.Read) = HasTaken reader × HasFailed reader
 

@@ -3,11 +3,15 @@
 //! A bad line is reported as soon as nothing that follows can mend it; so are an empty file, a last line
 //! without its newline and a submission cut short. A fault's number counts lines; an index has 64 bits.
 
-ghost use Rattle.std.specs.Prelude.{◌≡◌, ◌≢◌, ℕ, List, ◌∷◌, ◌++◌, ◌<◌, ◌≤◌, ◌^◌, MatchOption, codes, decimal, [], Some, None};
+ghost use Rattle.std.specs.Prelude.{◌≡◌, ◌≢◌, ℕ, List, ◌∷◌, ◌++◌, ◌<◌, ◌≤◌, ◌^◌, MatchOption, codes, decimal};
+ghost use Rattle.std.specs.Prelude.{[], Some, None};
 ghost use Rattle.site_ids.specs.Ids.{IsNode, IsInstance};
 ghost use Rattle.engine_common.specs.Cuts.{Lacks, IsCut};
 ghost use Rattle.site_ids.specs.declared.Ticket.{Ticket as AbstractTicket};
-ghost use Rattle.engine_schedule.specs.Schedule.{Line as AbstractLine, words, submit_words, Fits, IsPath, body, tick_line, widen_line, ask_line, tell_line, keep_line, restart_line, replace_line, deliver_line, arm_line, crash_line, quiet_line, show_line, get_line};
+ghost use Rattle.engine_schedule.specs.Schedule.{Line as AbstractLine, words, submit_words, Fits, IsPath};
+ghost use Rattle.engine_schedule.specs.Schedule.{body, tick_line, widen_line, ask_line, tell_line, keep_line};
+ghost use Rattle.engine_schedule.specs.Schedule.{restart_line, replace_line, deliver_line, arm_line};
+ghost use Rattle.engine_schedule.specs.Schedule.{crash_line, quiet_line, show_line, get_line};
 ghost use Rattle.engine_common.specs.Submissions.{joined, FitsSubmission};
 ghost use Rattle.engine_schedule.specs.ScheduleView.{line_view, submission_words, IsFound, IsFoundNodes};
 ghost use Rattle.engine_common.specs.Submissions.{submission_fits};
@@ -99,13 +103,15 @@ pub(crate) enum FoundNodes<'a> {
 
 /// The node of a line of two words.
 fn node_after(head: &[u8], front: &str) -> Option<NodeId>
-    ensures { MatchOption result ((p : ℕ) → IsNode 9 p → head.now ≢ front.now ++ decimal p) (λ p. IsNode 9 p × (head.now ≡ front.now ++ decimal p)) }
+    ensures { MatchOption result ((p : ℕ) → IsNode 9 p → head.now ≢ front.now ++ decimal p)
+        (λ p. IsNode 9 p × (head.now ≡ front.now ++ decimal p)) }
 {
     read_node(after(head, front)?)
 }
 
 fn arming(head: &[u8]) -> Option<(NodeId, u32)>
-    ensures { MatchOption result ((p calls : ℕ) → IsNode 9 p → calls < 2 ^ 32 → head.now ≢ joined (words (arm_line p calls)))
+    ensures { MatchOption result ((p calls : ℕ) → IsNode 9 p → calls < 2 ^ 32
+        → head.now ≢ joined (words (arm_line p calls)))
         (λ r. IsNode 9 r.0 × (r.1 < 2 ^ 32) × (head.now ≡ joined (words (arm_line r.0 r.1)))) }
 {
     let (node, calls) = number_at_node(head, "arm ")?;
@@ -114,7 +120,8 @@ fn arming(head: &[u8]) -> Option<(NodeId, u32)>
 
 /// The node and the instance of a line of three words.
 fn instance_at_node(head: &[u8], front: &str) -> Option<(NodeId, Instance)>
-    ensures { MatchOption result ((p i : ℕ) → IsNode 9 p → IsInstance i → head.now ≢ front.now ++ (decimal p ++ (32 ∷ decimal i)))
+    ensures { MatchOption result ((p i : ℕ) → IsNode 9 p → IsInstance i
+        → head.now ≢ front.now ++ (decimal p ++ (32 ∷ decimal i)))
         (λ r. IsNode 9 r.0 × IsInstance r.1 × (head.now ≡ front.now ++ (decimal r.0 ++ (32 ∷ decimal r.1)))) }
 {
     let (node, number) = number_at_node(head, front)?;
@@ -122,7 +129,8 @@ fn instance_at_node(head: &[u8], front: &str) -> Option<(NodeId, Instance)>
 }
 
 fn crashing(head: &[u8]) -> Option<(NodeId, u8)>
-    ensures { MatchOption result ((p choice : ℕ) → IsNode 9 p → choice < 2 ^ 8 → head.now ≢ joined (words (crash_line p choice)))
+    ensures { MatchOption result ((p choice : ℕ) → IsNode 9 p → choice < 2 ^ 8
+        → head.now ≢ joined (words (crash_line p choice)))
         (λ r. IsNode 9 r.0 × (r.1 < 2 ^ 8) × (head.now ≡ joined (words (crash_line r.0 r.1)))) }
 {
     let (node, choice) = number_at_node(head, "crash ")?;
@@ -131,8 +139,10 @@ fn crashing(head: &[u8]) -> Option<(NodeId, u8)>
 
 fn getting(head: &[u8]) -> Option<(NodeId, u64, &str)>
     requires { Lacks 10 head.now }
-    ensures { MatchOption result ((p n : ℕ) (path : List ℕ) → IsNode 9 p → n < 2 ^ 64 → IsPath path → head.now ≢ joined (words (get_line p n path)))
-        (λ r. IsNode 9 r.0 × (r.1 < 2 ^ 64) × IsPath r.2.now × (head.now ≡ joined (words (get_line r.0 r.1 r.2.now)))) }
+    ensures { MatchOption result ((p n : ℕ) (path : List ℕ) → IsNode 9 p → n < 2 ^ 64 → IsPath path
+        → head.now ≢ joined (words (get_line p n path)))
+        (λ r. IsNode 9 r.0 × (r.1 < 2 ^ 64) × IsPath r.2.now
+        × (head.now ≡ joined (words (get_line r.0 r.1 r.2.now)))) }
 {
     let (word, rest) = word_after(head, "get ")?;
     let (number, path) = cut(rest, b' ')?;
@@ -149,8 +159,11 @@ fn getting(head: &[u8]) -> Option<(NodeId, u64, &str)>
 
 /// A line of a word and a node.
 fn node_line(head: &[u8]) -> Option<Line<'_>>
-    ensures { MatchOption result ((p : ℕ) → IsNode 9 p → (head.now ≢ joined (words (tick_line p))) × (head.now ≢ joined (words (widen_line p))) × (head.now ≢ joined (words (ask_line p)))
-        × (head.now ≢ joined (words (restart_line p))) × (head.now ≢ joined (words (quiet_line p))) × (head.now ≢ joined (words (show_line p))))
+    ensures { MatchOption result ((p : ℕ) → IsNode 9 p
+        → (head.now ≢ joined (words (tick_line p))) × (head.now ≢ joined (words (widen_line p)))
+        × (head.now ≢ joined (words (ask_line p)))
+        × (head.now ≢ joined (words (restart_line p))) × (head.now ≢ joined (words (quiet_line p)))
+        × (head.now ≢ joined (words (show_line p))))
         (λ l. Fits (line_view l) × (body (line_view l) ≡ []) × (head.now ≡ joined (words (line_view l)))) }
 {
     if let Some(node) = node_after(head, "tick ") {
@@ -174,10 +187,13 @@ fn node_line(head: &[u8]) -> Option<Line<'_>>
 
 /// A line of a word, a node and a number.
 fn number_line(head: &[u8]) -> Option<Line<'_>>
-    ensures { MatchOption result (((p index : ℕ) → IsNode 9 p → index < 2 ^ 64 → head.now ≢ joined (words (deliver_line p index))) × ((p first : ℕ) → IsNode 9 p → IsInstance first → head.now ≢ joined (words (tell_line p first)))
+    ensures { MatchOption result (((p index : ℕ) → IsNode 9 p → index < 2 ^ 64
+        → head.now ≢ joined (words (deliver_line p index)))
+        × ((p first : ℕ) → IsNode 9 p → IsInstance first → head.now ≢ joined (words (tell_line p first)))
         × ((p i : ℕ) → IsNode 9 p → IsInstance i → head.now ≢ joined (words (keep_line p i)))
         × ((p floor : ℕ) → IsNode 9 p → IsInstance floor → head.now ≢ joined (words (replace_line p floor)))
-        × ((p calls : ℕ) → IsNode 9 p → calls < 2 ^ 32 → head.now ≢ joined (words (arm_line p calls))) × ((p choice : ℕ) → IsNode 9 p → choice < 2 ^ 8 → head.now ≢ joined (words (crash_line p choice))))
+        × ((p calls : ℕ) → IsNode 9 p → calls < 2 ^ 32 → head.now ≢ joined (words (arm_line p calls)))
+        × ((p choice : ℕ) → IsNode 9 p → choice < 2 ^ 8 → head.now ≢ joined (words (crash_line p choice))))
         (λ l. Fits (line_view l) × (body (line_view l) ≡ []) × (head.now ≡ joined (words (line_view l)))) }
 {
     if let Some((node, index)) = number_at_node(head, "deliver ") {
@@ -202,7 +218,8 @@ fn number_line(head: &[u8]) -> Option<Line<'_>>
 /// A line that is no submission, without its newline.
 fn plain_line(head: &[u8]) -> Option<Line<'_>>
     requires { Lacks 10 head.now }
-    ensures { MatchOption result ((line : AbstractLine) → Fits line → body line ≡ [] → head.now ≢ joined (words line))
+    ensures { MatchOption result ((line : AbstractLine) → Fits line → body line ≡ []
+        → head.now ≢ joined (words line))
         (λ l. Fits (line_view l) × (body (line_view l) ≡ []) × (head.now ≡ joined (words (line_view l)))) }
 {
     if let Some(line) = node_line(head) {
@@ -261,7 +278,8 @@ pub(crate) fn line_in(bytes: &[u8]) -> Found<'_>
 }
 
 fn cluster_in(head: &[u8]) -> Option<Cluster>
-    ensures { MatchOption result ((n : ℕ) → IsNode 9 n → head.now ≢ codes "nodes " ++ decimal n) (λ n. IsNode 9 n × (head.now ≡ codes "nodes " ++ decimal n)) }
+    ensures { MatchOption result ((n : ℕ) → IsNode 9 n → head.now ≢ codes "nodes " ++ decimal n)
+        (λ n. IsNode 9 n × (head.now ≡ codes "nodes " ++ decimal n)) }
 {
     let number = u8::try_from(read_number(after(head, "nodes ")?)?).ok()?;
     Cluster::new(number)

@@ -2,15 +2,19 @@
 //!
 //! A stopped `quiet` is `out of memory`.
 
-ghost use Rattle.std.specs.Prelude.{◌≡◌, ◌⊎◌, ℕ, Option, List, [], ◌∷◌, ◌++◌, ◌<◌, ◌≤◌, ◌+◌, length, IfOk, OnOk, IfErr, IsErrOf, Ok, Err, string_bytes, codes};
+ghost use Rattle.std.specs.Prelude.{◌≡◌, ◌⊎◌, ℕ, Option, List, [], ◌∷◌, ◌++◌, ◌<◌, ◌≤◌, ◌+◌, length, IfOk};
+ghost use Rattle.std.specs.Prelude.{OnOk, IfErr, IsErrOf, Ok, Err, string_bytes, codes};
 ghost use Rattle.engine_common.specs.Faults.{fault_at};
 ghost use Rattle.http_read.specs.Bytes.{end_of, IsGiven};
 ghost use Rattle.node.specs.Effects.{messages_of};
 ghost use Rattle.engine_schedule.specs.ScheduleView.{line_view};
-ghost use Rattle.engine_schedule.specs.Simulation.{Moment, IsMoment, Takes, TakesPlan, event_of, to_each, deliveries, state_word, IsShown, got, page_lines, IsPage, IsNoPage};
+ghost use Rattle.engine_schedule.specs.Simulation.{Moment, IsMoment, Takes, TakesPlan, event_of, to_each};
+ghost use Rattle.engine_schedule.specs.Simulation.{deliveries, state_word, IsShown, got, page_lines, IsPage};
+ghost use Rattle.engine_schedule.specs.Simulation.{IsNoPage};
 ghost use Rattle.release.specs.Standing.{answer_view};
 ghost use Rattle.engine_schedule.specs.SimulationEnds.{IsStart, HasSimulated};
-ghost use Rattle.engine_schedule.specs.Stepping.{sim_fault, moment_of, HappenEnds, FillEnds, NextEnds, HasBegun, BeginEnds, behind, IsSaid};
+ghost use Rattle.engine_schedule.specs.Stepping.{sim_fault, moment_of, HappenEnds, FillEnds, NextEnds};
+ghost use Rattle.engine_schedule.specs.Stepping.{HasBegun, BeginEnds, behind, IsSaid};
 ghost use Rattle.site_ids.specs.Ids.{IsNode};
 ghost use Rattle.world.specs.declared.event.Event.{Event as AbstractEvent};
 ghost use Rattle.world.specs.declared.event.Event.TheVariants.{Deliver};
@@ -171,10 +175,14 @@ impl Simulation {
     }
 
     fn take(&mut self, event: Event) -> Result<(), SimFault>
-        ensures ok { OnOk result ((n : ℕ) (events : List AbstractEvent) → IsMoment n (moment_of self.old events) → Takes n (moment_of self.old events) (event ∷ []) (moment_of self.new (events ++ event ∷ []))) }
-        ensures bad { IsErrOf result SimFault.BadEvent → (w : AbstractWorld) → IsWorldOf self.old.world w → IsBad self.old.world.cluster w event }
+        ensures ok { OnOk result ((n : ℕ) (events : List AbstractEvent)
+            → IsMoment n (moment_of self.old events)
+            → Takes n (moment_of self.old events) (event ∷ []) (moment_of self.new (events ++ event ∷ []))) }
+        ensures bad { IsErrOf result SimFault.BadEvent → (w : AbstractWorld) → IsWorldOf self.old.world w
+            → IsBad self.old.world.cluster w event }
         ensures faults { IfErr result (λ e. (e ≡ SimFault.BadEvent) ⊎ (e ≡ SimFault.OutOfMemory)) }
-        ensures grows { length (messages_of self.old.world.sent.items) ≤ length (messages_of self.new.world.sent.items) }
+        ensures grows { length (messages_of self.old.world.sent.items)
+            ≤ length (messages_of self.new.world.sent.items) }
         ensures settled { self.new.settled ≡ self.old.settled }
         ensures whose { self.new.world.cluster ≡ self.old.world.cluster }
     {
@@ -188,8 +196,12 @@ impl Simulation {
     /// Delivers a message to each node, the first one first.
     fn deliver_to_all(&mut self, index: usize) -> Result<(), SimFault>
         requires { index < length (messages_of self.old.world.sent.items) }
-        ensures ok { OnOk result ((n : ℕ) (events : List AbstractEvent) → IsMoment n (moment_of self.old events) → Takes n (moment_of self.old events) (to_each n index) (moment_of self.new (events ++ to_each n index))) }
-        ensures bad { IsErrOf result SimFault.BadEvent → (n : ℕ) (events : List AbstractEvent) → ¬ IsMoment n (moment_of self.old events) }
+        ensures ok { OnOk result ((n : ℕ) (events : List AbstractEvent)
+            → IsMoment n (moment_of self.old events)
+            → Takes n (moment_of self.old events) (to_each n index)
+            (moment_of self.new (events ++ to_each n index))) }
+        ensures bad { IsErrOf result SimFault.BadEvent → (n : ℕ) (events : List AbstractEvent)
+            → ¬ IsMoment n (moment_of self.old events) }
         ensures faults { IfErr result (λ e. (e ≡ SimFault.BadEvent) ⊎ (e ≡ SimFault.OutOfMemory)) }
         ensures settled { self.new.settled ≡ self.old.settled }
     {
@@ -204,10 +216,14 @@ impl Simulation {
 
     /// Delivers each message that no settle has taken, and those that come of it.
     fn settle(&mut self) -> Result<(), SimFault>
-        ensures ok { OnOk result ((n : ℕ) (events : List AbstractEvent) → IsMoment n (moment_of self.old events)
-            → (count : ℕ) × (self.new.settled ≡ self.old.settled + count) × Takes n (moment_of self.old events) (deliveries n self.old.settled count) (moment_of self.new (events ++ deliveries n self.old.settled count))) }
+        ensures ok { OnOk result ((n : ℕ) (events : List AbstractEvent)
+            → IsMoment n (moment_of self.old events)
+            → (count : ℕ) × (self.new.settled ≡ self.old.settled + count)
+            × Takes n (moment_of self.old events) (deliveries n self.old.settled count)
+            (moment_of self.new (events ++ deliveries n self.old.settled count))) }
         ensures all { OnOk result (length (messages_of self.new.world.sent.items) ≤ self.new.settled) }
-        ensures bad { IsErrOf result SimFault.BadEvent → (n : ℕ) (events : List AbstractEvent) → ¬ IsMoment n (moment_of self.old events) }
+        ensures bad { IsErrOf result SimFault.BadEvent → (n : ℕ) (events : List AbstractEvent)
+            → ¬ IsMoment n (moment_of self.old events) }
         ensures faults { IfErr result (λ e. (e ≡ SimFault.BadEvent) ⊎ (e ≡ SimFault.OutOfMemory)) }
     {
         for index in self.settled..usize::MAX {
@@ -223,8 +239,10 @@ impl Simulation {
     /// Takes the events by which a node learns its next value from a quiet state. From any other state there
     /// are none.
     fn quiet(&mut self, node: NodeId) -> Result<(), SimFault>
-        ensures ok { OnOk result (IsNode self.old.world.cluster node × ((n : ℕ) (events : List AbstractEvent) → IsMoment n (moment_of self.old events)
-            → (later : List AbstractEvent) × TakesPlan n (moment_of self.old events) node (moment_of self.new later))) }
+        ensures ok { OnOk result (IsNode self.old.world.cluster node
+            × ((n : ℕ) (events : List AbstractEvent) → IsMoment n (moment_of self.old events)
+            → (later : List AbstractEvent)
+            × TakesPlan n (moment_of self.old events) node (moment_of self.new later))) }
         ensures bad { IsErrOf result SimFault.BadLine → ¬ IsNode self.old.world.cluster node }
         ensures faults { IfErr result (λ e. (e ≡ SimFault.BadLine) ⊎ (e ≡ SimFault.OutOfMemory)) }
     {
@@ -241,7 +259,9 @@ impl Simulation {
 
     /// The line of `show`.
     fn shown(&self, alloc: Global, node: NodeId) -> Result<String, SimFault>
-        ensures ok { IfOk result (λ text. IsNode self.now.world.cluster node × ((n : ℕ) (events : List AbstractEvent) → IsMoment n (moment_of self.now events) → IsShown (moment_of self.now events) node (string_bytes text))) }
+        ensures ok { IfOk result (λ text. IsNode self.now.world.cluster node
+            × ((n : ℕ) (events : List AbstractEvent) → IsMoment n (moment_of self.now events)
+            → IsShown (moment_of self.now events) node (string_bytes text))) }
         ensures bad { IsErrOf result SimFault.BadLine → ¬ IsNode self.now.world.cluster node }
         ensures faults { IfErr result (λ e. (e ≡ SimFault.BadLine) ⊎ (e ≡ SimFault.OutOfMemory)) }
     {
@@ -258,8 +278,10 @@ impl Simulation {
 
     /// The line of `get`, and the body after it.
     fn got(&self, alloc: Global, node: NodeId, release: u64, path: &str) -> Result<String, SimFault>
-        ensures ok { IfOk result (λ text. IsNode self.now.world.cluster node × ((n : ℕ) (events : List AbstractEvent) → IsMoment n (moment_of self.now events)
-            → IsPage (moment_of self.now events) node release path.now (string_bytes text) ⊎ IsNoPage (moment_of self.now events) node release path.now (string_bytes text))) }
+        ensures ok { IfOk result (λ text. IsNode self.now.world.cluster node
+            × ((n : ℕ) (events : List AbstractEvent) → IsMoment n (moment_of self.now events)
+            → IsPage (moment_of self.now events) node release path.now (string_bytes text)
+            ⊎ IsNoPage (moment_of self.now events) node release path.now (string_bytes text))) }
         ensures bad { IsErrOf result SimFault.BadLine → ¬ IsNode self.now.world.cluster node }
         ensures faults { IfErr result (λ e. (e ≡ SimFault.BadLine) ⊎ (e ≡ SimFault.OutOfMemory)) }
     {
@@ -280,8 +302,12 @@ impl Simulation {
         path: &str,
     ) -> Result<String, AllocError>
         requires { IsNode self.now.world.cluster node }
-        ensures { IfOk result (λ text. (n : ℕ) (events : List AbstractEvent) → IsMoment n (moment_of self.now events)
-            → IsPage (moment_of self.now events) node release path.now (got node release path.now (string_bytes text)) ⊎ IsNoPage (moment_of self.now events) node release path.now (got node release path.now (string_bytes text))) }
+        ensures { IfOk result (λ text. (n : ℕ) (events : List AbstractEvent)
+            → IsMoment n (moment_of self.now events)
+            → IsPage (moment_of self.now events) node release path.now
+            (got node release path.now (string_bytes text))
+            ⊎ IsNoPage (moment_of self.now events) node release path.now
+            (got node release path.now (string_bytes text))) }
     {
         match self.world.answer(node, release, path) {
             Ok(answer) => page_text(alloc, &answer),
@@ -381,7 +407,8 @@ fn begin<R: Read>(
 /// Says in these words why line k stopped the run.
 fn say_at<E: Write>(alloc: Global, err: &mut Counted<E>, k: u64, why: &str) -> u8
     ensures status { result ≡ 1 }
-    ensures said { (said : List ℕ) × ((said ≡ fault_at k why.now) ⊎ (said ≡ codes "out of memory\n")) × IsGiven (end_of E.contents err.old err.new) said }
+    ensures said { (said : List ℕ) × ((said ≡ fault_at k why.now) ⊎ (said ≡ codes "out of memory\n"))
+        × IsGiven (end_of E.contents err.old err.new) said }
 {
     match format!(in alloc; "line {k}: {why}\n") {
         Ok(line) => say(err, line.as_str()),
@@ -411,8 +438,11 @@ fn run_lines<R: Read, W: Write, E: Write>(
     out: &mut Counted<W>,
     err: &mut Counted<E>,
 ) -> u8
-    ensures { (before : Option (List ℕ)) (failures : ℕ) → HasBegun (behind before failures (end_of R.remaining reader.old reader.old)) simulation.old [] feed.old
-        → HasSimulated (behind before failures (end_of R.remaining reader.old reader.new)) (end_of W.contents out.old out.new) (end_of E.contents err.old err.new) result }
+    ensures { (before : Option (List ℕ)) (failures : ℕ)
+        → HasBegun (behind before failures
+        (end_of R.remaining reader.old reader.old)) simulation.old [] feed.old
+        → HasSimulated (behind before failures (end_of R.remaining reader.old reader.new))
+        (end_of W.contents out.old out.new) (end_of E.contents err.old err.new) result }
 {
     for k in 2..u64::MAX {
         match simulation.next(alloc, feed, reader) {
@@ -435,7 +465,8 @@ pub fn sitesim<R: Read, W: Write, E: Write>(
     out: &mut Counted<W>,
     err: &mut Counted<E>,
 ) -> u8
-    ensures { HasSimulated (end_of R.remaining reader.old reader.new) (end_of W.contents out.old out.new) (end_of E.contents err.old err.new) result }
+    ensures { HasSimulated (end_of R.remaining reader.old reader.new) (end_of W.contents out.old out.new)
+        (end_of E.contents err.old err.new) result }
 {
     let mut feed = Feed::new(alloc);
     match begin(alloc, &mut feed, reader) {

@@ -4,7 +4,8 @@ ghost use Rattle.std.specs.List.{flat_map};
 ghost use Rattle.site_ids.specs.declared.TheConstants.{TICKET_BYTES};
 ghost use Rattle.command.specs.Reading.{ticket_of};
 ghost use Rattle.node.specs.Effects.{messages_of};
-ghost use Rattle.engine_schedule.specs.Tracing.{ballot_words, value_words, prior_words, kind_word, own_words, message_line, line_or_nothing};
+ghost use Rattle.engine_schedule.specs.Tracing.{ballot_words, value_words, prior_words, kind_word, own_words};
+ghost use Rattle.engine_schedule.specs.Tracing.{message_line, line_or_nothing};
 
 use byteorder::{BigEndian, ByteOrder};
 use site_ids::{Ballot, TICKET_BYTES, Ticket, Value, Vote};
@@ -24,7 +25,8 @@ fn ticket(value: &[u8]) -> Ticket
 
 /// The value's ticket, to the line's end.
 fn value_words(alloc: Global, value: &Value) -> Result<String, AllocError>
-    ensures { IfOk result (λ text. string_bytes text ≡ codes " value " ++ (value_words value.now ++ codes "\n")) }
+    ensures { IfOk result (λ text. string_bytes text
+        ≡ codes " value " ++ (value_words value.now ++ codes "\n")) }
 {
     let bytes = value.as_bytes();
     if TICKET_BYTES <= bytes.len() {
@@ -54,7 +56,8 @@ fn vote_words(
     ballot: Ballot,
     value: &Value,
 ) -> Result<String, AllocError>
-    ensures { IfOk result (λ text. string_bytes text ≡ before.now ++ ballot_words ballot (codes " value " ++ (value_words value.now ++ codes "\n"))) }
+    ensures { IfOk result (λ text. string_bytes text
+        ≡ before.now ++ ballot_words ballot (codes " value " ++ (value_words value.now ++ codes "\n"))) }
 {
     let value = value_words(alloc, value)?;
     ballot_words(alloc, before, ballot, value.as_str())
@@ -70,14 +73,16 @@ fn prior_words(alloc: Global, prior: &Option<Vote>) -> Result<String, AllocError
 }
 
 fn prepare_words(alloc: Global, ballot: Ballot, count: u8) -> Result<String, AllocError>
-    ensures { IfOk result (λ text. string_bytes text ≡ codes " count " ++ (decimal count ++ (codes " ballot " ++ ballot_words ballot (codes "\n")))) }
+    ensures { IfOk result (λ text. string_bytes text
+        ≡ codes " count " ++ (decimal count ++ (codes " ballot " ++ ballot_words ballot (codes "\n")))) }
 {
     let (round, node) = (ballot.round(), ballot.node().number());
     format!(in alloc; " count {count} ballot {round} {node}\n")
 }
 
 fn promise_words(alloc: Global, ballot: Ballot, prior: &Option<Vote>) -> Result<String, AllocError>
-    ensures { IfOk result (λ text. string_bytes text ≡ codes " ballot " ++ ballot_words ballot (prior_words prior.now)) }
+    ensures { IfOk result (λ text. string_bytes text
+        ≡ codes " ballot " ++ ballot_words ballot (prior_words prior.now)) }
 {
     let prior = prior_words(alloc, prior)?;
     ballot_words(alloc, " ballot ", ballot, prior.as_str())
@@ -85,7 +90,8 @@ fn promise_words(alloc: Global, ballot: Ballot, prior: &Option<Vote>) -> Result<
 
 /// The ballot that was asked for, and the higher one that was promised.
 fn nack_words(alloc: Global, asked: Ballot, promised: Ballot) -> Result<String, AllocError>
-    ensures { IfOk result (λ text. string_bytes text ≡ codes " asked " ++ ballot_words asked (codes " promised " ++ ballot_words promised (codes "\n"))) }
+    ensures { IfOk result (λ text. string_bytes text
+        ≡ codes " asked " ++ ballot_words asked (codes " promised " ++ ballot_words promised (codes "\n"))) }
 {
     let promised = ballot_words(alloc, " promised ", promised, "\n")?;
     ballot_words(alloc, " asked ", asked, promised.as_str())
@@ -138,7 +144,8 @@ fn message_line(alloc: Global, message: &Message) -> Result<String, AllocError>
 
 /// The line of the message at an index, and nothing past the last.
 fn line_at(alloc: Global, world: &World, index: usize) -> Result<String, AllocError>
-    ensures { IfOk result (λ text. string_bytes text ≡ line_or_nothing (slice_get (messages_of world.now.sent.items) index)) }
+    ensures { IfOk result (λ text. string_bytes text
+        ≡ line_or_nothing (slice_get (messages_of world.now.sent.items) index)) }
 {
     match world.sent(index) {
         Some(message) => message_line(alloc, message),
@@ -148,7 +155,8 @@ fn line_at(alloc: Global, world: &World, index: usize) -> Result<String, AllocEr
 
 /// A line for each message that any node has handed out, the oldest first.
 pub(crate) fn traced(alloc: Global, world: &World) -> Result<String, AllocError>
-    ensures { IfOk result (λ text. string_bytes text ≡ flat_map message_line (messages_of world.now.sent.items)) }
+    ensures { IfOk result (λ text. string_bytes text
+        ≡ flat_map message_line (messages_of world.now.sent.items)) }
 {
     let mut text = String::new(alloc);
     for index in 0..world.sent_count() {

@@ -36,7 +36,8 @@ pub record IsTarget (target : List ℕ) : Type 0 where
   pub no_newline : Lacks 10 target
 
 abbrev pub FitsPost : ℕ → Ticket → ℕ → Type 0
-FitsPost p ticket len = IsNode SERVERS p × (ticket.editor < 2 ^ 32) × (ticket.number < 2 ^ 64) × (len ≤ MAX_POST)
+FitsPost p ticket len =
+    IsNode SERVERS p × (ticket.editor < 2 ^ 32) × (ticket.number < 2 ^ 64) × (len ≤ MAX_POST)
 
 -- each number is in its range
 abbrev pub Fits : Line → Type 0

@@ -4,7 +4,8 @@ use Rattle.std.specs.List.{flat_map, AllByRecursion}
 use Rattle.std.specs.Io.KnownBytes.{Consumes, IsAtEnd}
 use Rattle.http_read.specs.Bytes.{End, HasFailed, IsRead, IsSilent, IsWritten, IsBroken, IsGiven}
 use Rattle.engine_script.specs.Client.{IsShown}
-use Rattle.engine_script.specs.Script.{Line, post_line, get_line, turns_line, drive_line, spelled, Fits, HasNoLine, GetsNoLine}
+use Rattle.engine_script.specs.Script.{Line, post_line, get_line, turns_line, drive_line, spelled, Fits}
+use Rattle.engine_script.specs.Script.{HasNoLine, GetsNoLine}
 use Rattle.engine_common.specs.Faults.{fault_at}
 
 -- a line of a request
@@ -24,7 +25,9 @@ Prints (drive_line p k) printed = printed ≡ []
 -- the lines one after another, and all that they print
 abbrev pub PrintsAll : List Line → List ℕ → Type 0
 PrintsAll [] printed = printed ≡ []
-PrintsAll (line ∷ lines) printed = (first : List ℕ) × (later : List ℕ) × Prints line first × (printed ≡ first ++ later) × PrintsAll lines later
+PrintsAll (line ∷ lines) printed =
+    (first : List ℕ) × (later : List ℕ) × Prints line first × (printed ≡ first ++ later)
+    × PrintsAll lines later
 
 -- what was read is these lines and a rest, and the lines printed this
 pub record HasDone (taken : List ℕ) (lines : List Line) (printed rest : List ℕ) : Type 0 where
@@ -99,7 +102,8 @@ pub record Broken (reader out err : End) (status : ℕ) : Type 0 where
 
 -- over servers that were opened
 abbrev pub HasRun : End → End → End → ℕ → Type 0
-HasRun reader out err status = Finished reader out err status ⊎ Stopped reader out err status ⊎ Broken reader out err status
+HasRun reader out err status =
+    Finished reader out err status ⊎ Stopped reader out err status ⊎ Broken reader out err status
 
 abbrev pub HasDriven : End → End → End → ℕ → Type 0
 HasDriven reader out err status = NotOpened reader out err status ⊎ HasRun reader out err status

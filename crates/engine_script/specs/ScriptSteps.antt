@@ -1,5 +1,6 @@
 -- What the steps of a script's run make of the bytes that were read.
-use Rattle.std.specs.Prelude.{ℕ, ◌≡◌, ◌⊎◌, List, [], ◌++◌, Bool, true, false, Option, Some, None, Result, Ok, Err, Vec, codes, ⊤}
+use Rattle.std.specs.Prelude.{ℕ, ◌≡◌, ◌⊎◌, List, [], ◌++◌, Bool, true, false, Option, Some, None, Result, Ok}
+use Rattle.std.specs.Prelude.{Err, Vec, codes, ⊤}
 use Rattle.std.specs.declared.alloc.Global.{Global}
 use Rattle.std.specs.Io.KnownBytes.{IsAtEnd}
 use Rattle.http_read.specs.Bytes.{End, HasFailed, IsSound}
@@ -53,7 +54,8 @@ pub record HasStepped (reader : End) (old new : List ℕ) (text : List ℕ) : Ty
 abbrev pub NextEnds : End → List ℕ → List ℕ → Result (Option (Vec ℕ Global)) ScriptFault → Type 0
 NextEnds reader old new (Ok (Some text)) = HasStepped reader old new text.items
 NextEnds reader old new (Ok None) = Grown reader old [] × IsSound reader × IsAtEnd reader.after
-NextEnds reader old new (Err script.BadLine) = (held : List ℕ) × Grown reader old held × HasBadLine reader held
+NextEnds reader old new (Err script.BadLine) =
+    (held : List ℕ) × Grown reader old held × HasBadLine reader held
 NextEnds reader old new (Err script.Socket) = (held : List ℕ) × Grown reader old held × HasRequest held
 NextEnds reader old new (Err script.OutOfMemory) = HasTaken reader
 NextEnds reader old new (Err script.Read) = HasTaken reader × HasFailed reader

@@ -5,7 +5,8 @@ use Rattle.engine_script.specs.declared.script.Line.TheVariants as code
 use Rattle.engine_script.specs.declared.script.Found.{Found}
 use Rattle.engine_script.specs.declared.script.Found.TheVariants as found
 use Rattle.engine_common.specs.declared.words.SubmissionLine.{SubmissionLine}
-use Rattle.engine_script.specs.Script.{Line, post_line, get_line, turns_line, drive_line, post_words, FitsPost, Fits, spelled, HasNoLine, GetsNoLine}
+use Rattle.engine_script.specs.Script.{Line, post_line, get_line, turns_line, drive_line, post_words}
+use Rattle.engine_script.specs.Script.{FitsPost, Fits, spelled, HasNoLine, GetsNoLine}
 
 abbrev pub line_view : Code → Line
 line_view (code.Post node ticket text) = post_line node ticket text.now

@@ -153,7 +153,8 @@ fn next<N: Net<Stream = TcpStream>, R: Read>(
 /// Says in these words why line k stopped the run.
 fn say_at<E: Write>(alloc: Global, err: &mut Counted<E>, k: u64, why: &str) -> u8
     ensures status { result ≡ 1 }
-    ensures said { (said : List ℕ) × ((said ≡ fault_at k why.now) ⊎ (said ≡ codes "out of memory\n")) × IsGiven (end_of E.contents err.old err.new) said }
+    ensures said { (said : List ℕ) × ((said ≡ fault_at k why.now) ⊎ (said ≡ codes "out of memory\n"))
+        × IsGiven (end_of E.contents err.old err.new) said }
 {
     match format!(in alloc; "line {k}: {why}\n") {
         Ok(line) => say(err, line.as_str()),
@@ -183,7 +184,8 @@ fn run<N: Net<Stream = TcpStream>, R: Read, W: Write, E: Write>(
     out: &mut Counted<W>,
     err: &mut Counted<E>,
 ) -> u8
-    ensures { HasRun (end_of R.remaining reader.old reader.new) (end_of W.contents out.old out.new) (end_of E.contents err.old err.new) result }
+    ensures { HasRun (end_of R.remaining reader.old reader.new) (end_of W.contents out.old out.new)
+        (end_of E.contents err.old err.new) result }
 {
     let mut feed = Feed::new(alloc);
     for k in 1..u64::MAX {
@@ -211,7 +213,8 @@ pub fn sitecluster<N: Net<Listener = TcpListener, Stream = TcpStream>, R: Read, 
     out: &mut Counted<W>,
     err: &mut Counted<E>,
 ) -> u8
-    ensures { HasDriven (end_of R.remaining reader.old reader.new) (end_of W.contents out.old out.new) (end_of E.contents err.old err.new) result }
+    ensures { HasDriven (end_of R.remaining reader.old reader.new) (end_of W.contents out.old out.new)
+        (end_of E.contents err.old err.new) result }
 {
     match Servers::open(net, alloc) {
         Ok(mut servers) => run(net, alloc, &mut servers, reader, out, err),

@@ -4,7 +4,8 @@ ghost use Rattle.site_ids.specs.Ids.{IsNode};
 ghost use Rattle.site_ids.specs.declared.Ticket.{Ticket as AbstractTicket};
 ghost use Rattle.engine_common.specs.Cuts.{Lacks};
 ghost use Rattle.engine_common.specs.Submissions.{joined};
-ghost use Rattle.engine_script.specs.Script.{Line as AbstractLine, words, post_words, FitsPost, Fits, IsTarget, body, get_line, turns_line, drive_line};
+ghost use Rattle.engine_script.specs.Script.{Line as AbstractLine, words, post_words, FitsPost, Fits};
+ghost use Rattle.engine_script.specs.Script.{IsTarget, body, get_line, turns_line, drive_line};
 ghost use Rattle.engine_script.specs.ScriptView.{line_view, post_fits, posted_words, IsFound};
 
 use engine_common::{
@@ -56,7 +57,8 @@ pub(crate) enum Found<'a> {
 
 /// The words of a post.
 fn post_in(head: &[u8]) -> Option<SubmissionLine>
-    ensures { MatchOption result ((p : ℕ) (ticket : AbstractTicket) (len : ℕ) → FitsPost p ticket len → head.now ≢ joined (post_words p ticket len))
+    ensures { MatchOption result ((p : ℕ) (ticket : AbstractTicket) (len : ℕ) → FitsPost p ticket len
+        → head.now ≢ joined (post_words p ticket len))
         (λ s. post_fits s × (head.now ≡ joined (posted_words s))) }
 {
     let post = submission_after(head, "post ")?;
@@ -68,7 +70,8 @@ fn post_in(head: &[u8]) -> Option<SubmissionLine>
 
 fn getting(head: &[u8]) -> Option<(NodeId, &[u8])>
     requires { Lacks 10 head.now }
-    ensures { MatchOption result ((p : ℕ) (target : List ℕ) → IsNode SERVERS p → IsTarget target → head.now ≢ joined (words (get_line p target)))
+    ensures { MatchOption result ((p : ℕ) (target : List ℕ) → IsNode SERVERS p → IsTarget target
+        → head.now ≢ joined (words (get_line p target)))
         (λ r. IsNode SERVERS r.0 × IsTarget r.1.now × (head.now ≡ joined (words (get_line r.0 r.1.now)))) }
 {
     let (word, target) = word_after(head, "get ")?;
@@ -80,7 +83,8 @@ fn getting(head: &[u8]) -> Option<(NodeId, &[u8])>
 }
 
 fn turning(head: &[u8]) -> Option<u32>
-    ensures { MatchOption result ((k : ℕ) → k ≤ MAX_TURNS → head.now ≢ joined (words (turns_line k))) (λ k. (k ≤ MAX_TURNS) × (head.now ≡ joined (words (turns_line k)))) }
+    ensures { MatchOption result ((k : ℕ) → k ≤ MAX_TURNS → head.now ≢ joined (words (turns_line k)))
+        (λ k. (k ≤ MAX_TURNS) × (head.now ≡ joined (words (turns_line k)))) }
 {
     let count = read_number(after(head, "turns ")?)?;
     if count > MAX_TURNS {
@@ -90,7 +94,8 @@ fn turning(head: &[u8]) -> Option<u32>
 }
 
 fn driving(head: &[u8]) -> Option<(NodeId, u32)>
-    ensures { MatchOption result ((p k : ℕ) → IsNode SERVERS p → k ≤ MAX_TURNS → head.now ≢ joined (words (drive_line p k)))
+    ensures { MatchOption result ((p k : ℕ) → IsNode SERVERS p → k ≤ MAX_TURNS
+        → head.now ≢ joined (words (drive_line p k)))
         (λ r. IsNode SERVERS r.0 × (r.1 ≤ MAX_TURNS) × (head.now ≡ joined (words (drive_line r.0 r.1)))) }
 {
     let (node, turns) = number_at_node(head, "drive ")?;
@@ -103,7 +108,8 @@ fn driving(head: &[u8]) -> Option<(NodeId, u32)>
 /// A line that is no post, without its newline.
 fn plain_line(head: &[u8]) -> Option<Line<'_>>
     requires { Lacks 10 head.now }
-    ensures { MatchOption result ((line : AbstractLine) → Fits line → body line ≡ [] → head.now ≢ joined (words line))
+    ensures { MatchOption result ((line : AbstractLine) → Fits line → body line ≡ []
+        → head.now ≢ joined (words line))
         (λ l. Fits (line_view l) × (body (line_view l) ≡ []) × (head.now ≡ joined (words (line_view l)))) }
 {
     if let Some((node, target)) = getting(head) {

@@ -15,7 +15,8 @@ use std::net::{Net, SocketAddr, TcpListener, TcpStream, UdpSocket};
 /// How many turns a node takes when all take turns.
 const TURNS: u32 = 20;
 
-/// The servers 1 to 3, in order. Each is boxed, since what owns one is proved to let it go, and a box is let go of in one step.
+/// The servers 1 to 3, in order. Each is boxed, since what owns one is proved to let it go, and a box is let
+/// go of in one step.
 #[derive(Drop)]
 pub(crate) struct Servers {
     first: Box<LoopbackServer>,

@@ -1,5 +1,6 @@
 -- The body of a request (RFC 9112, sections 6 and 7.1).
-use Rattle.std.specs.Prelude.{◌≡◌, ◌≢◌, ℕ, ◌-◌, slice_index, ◌+◌, ◌<◌, ◌≤◌, ◌⊎◌, List, ◌++◌, length, take, drop, All}
+use Rattle.std.specs.Prelude.{◌≡◌, ◌≢◌, ℕ, ◌-◌, slice_index, ◌+◌, ◌<◌, ◌≤◌, ◌⊎◌, List, ◌++◌, length, take}
+use Rattle.std.specs.Prelude.{drop, All}
 use Rattle.std.specs.List.{flat_map}
 use Rattle.http_read.specs.declared.lines.TheConstants.{LINE_LIMIT}
 use Rattle.http_read.specs.declared.lengths.TheConstants.{BODY_LIMIT}
@@ -59,7 +60,8 @@ pub record BeginsWithLine (tail : List ℕ) (line : ChunkLine) (rest : List ℕ)
 abbrev pub IsNoLine : List ℕ → Type 0
 IsNoLine tail =
     ((LINE_LIMIT ≤ length tail) × HasNoFeed tail)
-    ⊎ ((n : ℕ) × IsFirstLine tail n × ((line : ChunkLine) → IsChunkLine line → ¬ (take n tail ≡ print_chunk_line line)))
+    ⊎ ((n : ℕ) × IsFirstLine tail n
+    × ((line : ChunkLine) → IsChunkLine line → ¬ (take n tail ≡ print_chunk_line line)))
 
 -- the input ends within the first line
 pub record IsCutLine (tail : List ℕ) : Type 0 where
@@ -88,7 +90,8 @@ EndsChunks so_far tail ended =
 -- a body by chunks: whole chunks, and then what ends them
 abbrev pub ReadsChunks : List ℕ → Reading (List ℕ) → Type 0
 ReadsChunks input (got body rest) =
-    (chunks : List Chunk) × (tail : List ℕ) × BeginsWithChunks input chunks tail × (body ≡ chunks_joined chunks)
+    (chunks : List Chunk) × (tail : List ℕ) × BeginsWithChunks input chunks tail
+    × (body ≡ chunks_joined chunks)
     × ((fields : List Field) × EndsChunks (length body) tail (got fields rest))
 ReadsChunks input (refused status) =
     (chunks : List Chunk) × (tail : List ℕ) × BeginsWithChunks input chunks tail

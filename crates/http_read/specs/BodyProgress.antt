@@ -41,7 +41,8 @@ pub record IsAfterLastLine (bytes used : List ℕ) : Type 0 where
   pub last : chunk_size line ≡ 0
   pub joined : bytes ≡ chunks_joined chunks
 
--- of a body that is framed so these bytes are used before what comes next, and those of them that count are bytes
+-- of a body that is framed so these bytes are used before what comes next, and those of them that count are
+-- bytes
 abbrev pub IsUsedUpTo : Framing → Awaited → List ℕ → List ℕ → Type 0
 IsUsedUpTo framing (Fixed missing) bytes used = (framing ≡ fixed (length bytes + missing)) × (used ≡ bytes)
 IsUsedUpTo framing Line bytes used = (framing ≡ chunked) × IsAfterChunks bytes used
@@ -77,10 +78,12 @@ GoesOn old new held left =
 abbrev pub KeepsBound : Body → Body → List ℕ → List ℕ → Type 0
 KeepsBound old new held left = length held + left_of new ≤ length left + left_of old
 
--- What was used and what was held are a part of the body; what is held is less than a head may have, and than may be used.
+-- What was used and what was held are a part of the body; what is held is less than a head may have, and than
+-- may be used.
 pub record Waits (old new : Body) (held left : List ℕ) : Type 0 where
   pub goes_on : GoesOn old new held left
-  pub short : (framing : Framing) (used : List ℕ) → IsUsed framing old used → ReadsBody framing (used ++ held) ended
+  pub short : (framing : Framing) (used : List ℕ) → IsUsed framing old used
+      → ReadsBody framing (used ++ held) ended
   pub bound : KeepsBound old new held left
   pub room : length left ≤ HEAD_LIMIT
   pub wanted : length left < left_of new
@@ -89,9 +92,11 @@ pub record Waits (old new : Body) (held left : List ℕ) : Type 0 where
 abbrev pub ShowsRead : BodyRead → Body → Body → List ℕ → List ℕ → Type 0
 ShowsRead Open old new held left = Waits old new held left
 ShowsRead Whole old new held left =
-    (framing : Framing) (used : List ℕ) → IsUsed framing old used → ReadsBody framing (used ++ held) (got new.bytes.items left)
+    (framing : Framing) (used : List ℕ) → IsUsed framing old used
+    → ReadsBody framing (used ++ held) (got new.bytes.items left)
 ShowsRead (Refused status) old new held left =
-    (framing : Framing) (used : List ℕ) → IsUsed framing old used → ReadsBody framing (used ++ held) (refused status)
+    (framing : Framing) (used : List ℕ) → IsUsed framing old used
+    → ReadsBody framing (used ++ held) (refused status)
 
 -- this falls with each step: a step uses two bytes or more, except the one to a line break
 abbrev pub steps_left : Awaited → List ℕ → ℕ

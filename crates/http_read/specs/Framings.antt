@@ -10,7 +10,8 @@ use Rattle.http_read.specs.declared.judging.Judged.{Judged}
 use Rattle.http_read.specs.declared.judging.Judged.TheVariants.{Asks, Refused}
 use Rattle.http_read.specs.Methods.{method_name}
 use Rattle.http_read.specs.Targets.{AsksFor}
-use Rattle.http_read.specs.Checks.{FieldPair, Framing, fixed, chunked, framing_of, fault_of, head_fault, keeps, pairs_of}
+use Rattle.http_read.specs.Checks.{FieldPair, Framing, fixed, chunked, framing_of, fault_of, head_fault}
+use Rattle.http_read.specs.Checks.{keeps, pairs_of}
 
 -- the framing that is meant
 abbrev pub framing_meant : Cut → Framing

@@ -29,7 +29,8 @@ asks_of b = record { method = b.passed.method; path = b.path; keep = b.passed.ke
 abbrev pub Resumes : Progress → List ℕ → Type 0
 Resumes Head used = used ≡ []
 Resumes (Body b) used =
-    (head : RequestHead) × (front : List ℕ) × ReadsHead used (got head front) × Judges head (Asks b.passed b.path)
+    (head : RequestHead) × (front : List ℕ) × ReadsHead used (got head front)
+    × Judges head (Asks b.passed b.path)
     × (b.of_head ≡ is_head head) × IsUsed (framing_meant b.passed.cut) b.body front
 
 -- at most this many bytes are used until it is known what becomes of the request
@@ -40,13 +41,15 @@ bytes_left (Body b) = left_of b.body
 -- a front of what was held is used, and left is what is held now
 abbrev pub Advances : Progress → Progress → List ℕ → List ℕ → Type 0
 Advances old new held left =
-    (used : List ℕ) → Resumes old used → (front : List ℕ) × (held ≡ front ++ left) × Resumes new (used ++ front)
+    (used : List ℕ) → Resumes old used
+    → (front : List ℕ) × (held ≡ front ++ left) × Resumes new (used ++ front)
 
 -- no more is used than may be
 abbrev pub KeepsBound : Progress → Progress → List ℕ → List ℕ → Type 0
 KeepsBound old new held left = length held + bytes_left new ≤ length left + bytes_left old
 
--- What was used and what was held end within a request; what is held is no more than a head may have, and less than may be used.
+-- What was used and what was held end within a request; what is held is no more than a head may have, and
+-- less than may be used.
 pub record Waits (old new : Progress) (held left : List ℕ) : Type 0 where
   pub advances : Advances old new held left
   pub short : (used : List ℕ) → Resumes old used → IsCutShort (used ++ held)
@@ -54,9 +57,11 @@ pub record Waits (old new : Progress) (held left : List ℕ) : Type 0 where
   pub room : length left ≤ HEAD_LIMIT
   pub wanted : length left < bytes_left new
 
--- no whole head; or one that passes its tests is used, and left is what follows what was used; or the request is refused
+-- no whole head; or one that passes its tests is used, and left is what follows what was used; or the request
+-- is refused
 abbrev pub ShowsOpened : Opened → Progress → List ℕ → List ℕ → Type 0
 ShowsOpened opened.Open old held left = Waits old Head held left
-ShowsOpened (opened.Head begun) old held left = Advances old (Body begun) held left × KeepsBound old (Body begun) held left
+ShowsOpened (opened.Head begun) old held left =
+    Advances old (Body begun) held left × KeepsBound old (Body begun) held left
 ShowsOpened (opened.Refused status of_head) old held left =
     (used : List ℕ) → Resumes old used → Answers (used ++ held) (refuses status of_head)

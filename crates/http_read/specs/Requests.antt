@@ -13,8 +13,8 @@ pub record Asked : Type 0 where
   pub keep : Bool
   pub body : List ℕ
 
--- a request and the bytes after it; a refusal by its status, and whether it is of a HEAD request; an input that ended within the request;
--- or one that ended before it
+-- a request and the bytes after it; a refusal by its status, and whether it is of a HEAD request; an input
+-- that ended within the request; or one that ended before it
 pub data Heard : Type 0 where
   asks : Asked → List ℕ → Heard
   refuses : ℕ → Bool → Heard
@@ -29,7 +29,8 @@ is_head head = bytes_eq head.method (codes "HEAD")
 abbrev pub Follows : RequestHead → List ℕ → Heard → Type 0
 Follows head rest (asks request left) =
     (head_fault head ≡ None) × (request.method ≡ head.method) × AsksFor head.target request.path
-    × (request.keep ≡ keeps head.minor (pairs_of head)) × ReadsBody (framing_of (pairs_of head)) rest (got request.body left)
+    × (request.keep ≡ keeps head.minor (pairs_of head))
+    × ReadsBody (framing_of (pairs_of head)) rest (got request.body left)
 Follows head rest (refuses status of_head) =
     (of_head ≡ is_head head) × (
     (head_fault head ≡ Some status)
@@ -50,9 +51,11 @@ IsCutShort input =
 -- One request at the front of the input.
 abbrev pub Answers : List ℕ → Heard → Type 0
 Answers input (asks request left) =
-    (head : RequestHead) × (rest : List ℕ) × ReadsHead input (got head rest) × Follows head rest (asks request left)
+    (head : RequestHead) × (rest : List ℕ) × ReadsHead input (got head rest)
+    × Follows head rest (asks request left)
 Answers input (refuses status of_head) =
     ((of_head ≡ false) × ReadsHead input (refused status))
-    ⊎ ((head : RequestHead) × (rest : List ℕ) × ReadsHead input (got head rest) × Follows head rest (refuses status of_head))
+    ⊎ ((head : RequestHead) × (rest : List ℕ) × ReadsHead input (got head rest)
+    × Follows head rest (refuses status of_head))
 Answers input stops = (input ≢ []) × IsCutShort input
 Answers input ends = input ≡ []

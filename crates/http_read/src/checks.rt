@@ -1,7 +1,9 @@
 //! The tests that a head has to pass, in their order.
-ghost use Rattle.std.specs.Prelude.{◌≡◌, ◌≤◌, ◌<◌, ℕ, length, MatchOption, MatchResult, IfOk, codes, false, None, Some};
+ghost use Rattle.std.specs.Prelude.{◌≡◌, ◌≤◌, ◌<◌, ℕ, length, MatchOption, MatchResult, IfOk, codes, false};
+ghost use Rattle.std.specs.Prelude.{None, Some};
 ghost use Rattle.http_read.specs.declared.lengths.TheConstants.{BODY_LIMIT};
-ghost use Rattle.http_read.specs.Checks.{host_fault, coding_fault, length_fault, fault_of, is_known_method, values_of, stated_length};
+ghost use Rattle.http_read.specs.Checks.{host_fault, coding_fault, length_fault, fault_of, is_known_method};
+ghost use Rattle.http_read.specs.Checks.{values_of, stated_length};
 ghost use Rattle.http_read.specs.Framings.{Passes};
 ghost use Rattle.http_read.specs.Methods.{method_name};
 ghost use Rattle.http_read.specs.Spans.{covered, LieIn};
@@ -34,7 +36,8 @@ pub(crate) struct Passed {
 
 /// The method of this name; names differ by case (RFC 9110, section 9.1).
 pub(crate) fn method_named(name: &[u8]) -> Option<Method>
-    ensures { MatchOption result (is_known_method name.now ≡ false) (λ method. method_name method ≡ name.now) }
+    ensures { MatchOption result (is_known_method name.now ≡ false)
+        (λ method. method_name method ≡ name.now) }
 {
     if name == b"GET".as_slice() {
         Some(Method::Get)
@@ -101,7 +104,8 @@ fn length_named(bytes: &[u8], fields: &[HeaderSpan]) -> Result<usize, u16>
     }
 }
 
-/// The method, how the body is cut and whether the connection may stay; or the status of the first test that the head fails.
+/// The method, how the body is cut and whether the connection may stay; or the status of the first test that
+/// the head fails.
 pub(crate) fn pass(
     minor: u8,
     method: &[u8],

@@ -22,7 +22,8 @@ pub(crate) enum LineRead {
 /// The size on a line, if it is a chunk line.
 fn size_on(line: &[u8]) -> Option<u64>
     requires { IsFirstLine line.now (length line.now) }
-    ensures { MatchOption result ((l : ChunkLine) → IsChunkLine l → ¬ (line.now ≡ print_chunk_line l)) (IsLineOf line.now) }
+    ensures { MatchOption result ((l : ChunkLine) → IsChunkLine l → ¬ (line.now ≡ print_chunk_line l))
+        (IsLineOf line.now) }
 {
     match parse_chunk_size(line) {
         Ok(Status::Complete((_, size))) => Some(size),

@@ -20,7 +20,8 @@ pub(crate) struct Codings {
 /// What is before the first comma, and what is after it.
 pub(crate) fn cut_at_comma(value: &[u8]) -> Option<(&[u8], &[u8])>
     ensures { MatchOption result (comma_parts value.now ≡ value.now ∷ [])
-        (λ cut. (comma_parts value.now ≡ cut.0.now ∷ comma_parts cut.1.now) × (length cut.1.now < length value.now)) }
+        (λ cut. (comma_parts value.now ≡ cut.0.now ∷ comma_parts cut.1.now)
+        × (length cut.1.now < length value.now)) }
 {
     for i in 0..value.len() {
         if value[i] == b',' {

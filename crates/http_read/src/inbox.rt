@@ -2,7 +2,8 @@
 //!
 //! It reads by itself, as no clause could tie bytes lent.
 
-ghost use Rattle.std.specs.Prelude.{◌≡◌, ◌≢◌, ℕ, ◌+◌, ◌-◌, List, [], ◌<◌, ◌≤◌, length, take, drop, slice_range, Ok, IfOk, OnOk, OnErr, IfErr, IsErrOf, IsTrue, ◌↔◌, vec_len};
+ghost use Rattle.std.specs.Prelude.{◌≡◌, ◌≢◌, ℕ, ◌+◌, ◌-◌, List, [], ◌<◌, ◌≤◌, length, take, drop};
+ghost use Rattle.std.specs.Prelude.{slice_range, Ok, IfOk, OnOk, OnErr, IfErr, IsErrOf, IsTrue, ◌↔◌, vec_len};
 ghost use Rattle.std.specs.Io.KnownBytes.{Keeps, IsAtEnd};
 ghost use Rattle.http_read.specs.declared.heads.TheConstants.{HEAD_LIMIT};
 ghost use Rattle.http_read.specs.Counted.{inside, failed, RoseByOne};
@@ -16,10 +17,12 @@ use std::io;
 use std::io::Read;
 use std::marker::Model;
 
-/// How many bytes an inbox holds at most: room for a whole head that comes at once, and for as many bytes more.
+/// How many bytes an inbox holds at most: room for a whole head that comes at once, and for as many bytes
+/// more.
 const ROOM: usize = 16_384;
 
-/// The bytes that were read from a connection and not yet used, in a buffer of 16 KB that is made at the first reading.
+/// The bytes that were read from a connection and not yet used, in a buffer of 16 KB that is made at the
+/// first reading.
 ///
 /// One inbox serves a connection: what a client sends ahead is kept for its next request.
 #[derive(Drop)]
@@ -74,7 +77,8 @@ impl Inbox {
     /// Reads once, after what is held, which is moved to the front first: so the room of all used bytes is
     /// free again.
     ///
-    /// `Ok(0)` is the end of the input. A reader that has no byte yet and doesn't wait for one (`WouldBlock`) has failed; it can be read again.
+    /// `Ok(0)` is the end of the input. A reader that has no byte yet and doesn't wait for one (`WouldBlock`)
+    /// has failed; it can be read again.
     pub fn read_from<R: Read>(
         &mut self,
         reader: &mut Counted<R>,
@@ -85,7 +89,8 @@ impl Inbox {
         ensures ended { result ≡ Ok (Ok 0) → IsAtEnd (R.remaining (inside reader.new)) }
         ensures unread { IfOk result (λ read. OnErr read ((self.new ≡ self.old)
             × Keeps (R.remaining (inside reader.old)) (R.remaining (inside reader.new)))) }
-        ensures failed { IfOk result (λ read. OnErr read (RoseByOne (failed reader.old) (failed reader.new))) }
+        ensures failed { IfOk result (λ read. OnErr read
+            (RoseByOne (failed reader.old) (failed reader.new))) }
         ensures quiet { IfOk result (λ read. OnOk read (failed reader.new ≡ failed reader.old)) }
         ensures memory { OnErr result ((self.new ≡ self.old) × (reader.new ≡ reader.old)) }
     {

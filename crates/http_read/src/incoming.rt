@@ -14,7 +14,8 @@ pub struct Request {
     pub method: Method,
     /// The target's path, percent-decoded once, without the query.
     pub path: String,
-    /// Whether the client lets the connection stay: the request is of HTTP/1.1, and no Connection line says `close`.
+    /// Whether the client lets the connection stay: the request is of HTTP/1.1, and no Connection line says
+    /// `close`.
     pub keep: bool,
     /// At most 40,000 bytes. A body that came in chunks is here without what is around them.
     pub body: Vec<u8>,

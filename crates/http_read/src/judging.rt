@@ -45,7 +45,8 @@ pub(crate) fn judge(
     found: RequestSpans,
 ) -> Result<Judged, AllocError>
     requires { IsRequestWithin bytes.now spans.now found }
-    ensures { IfOk result (λ judged. (head : RequestHead) → IsRequestAt bytes.now spans.now found head → Judges head judged) }
+    ensures { IfOk result (λ judged. (head : RequestHead) → IsRequestAt bytes.now spans.now found head
+        → Judges head judged) }
 {
     let fields = fields_of(bytes, spans, found);
     match pass(found.version, found.method.of(bytes), bytes, fields) {

@@ -1,7 +1,8 @@
 //! Reads HTTP/1.1 requests, one at a time, from any reader (RFC 9112).
 //!
-//! `request` reads the next one of a connection: its method, its path and its body, or the status of its refusal, or that the client sent no
-//! more. What the client sent is read as one list of bytes, however it was cut. Readers and writers are counted ends: `Counted` says how many of their calls failed.
+//! `request` reads the next one of a connection: its method, its path and its body, or the status of its
+//! refusal, or that the client sent no more. What the client sent is read as one list of bytes, however it
+//! was cut. Readers and writers are counted ends: `Counted` says how many of their calls failed.
 #![tactic(auto)]
 
 mod awaited;

@@ -90,7 +90,8 @@ pub fn advance(
     inbox: &mut Inbox,
     spans: &mut Vec<HeaderSpan>,
 ) -> Result<Option<Incoming>, AllocError>
-    ensures whole { IfOk result (λ read. IfSome read (λ incoming. (used : List ℕ) → Resumes progress.old used →
+    ensures whole { IfOk result (λ read. IfSome read
+        (λ incoming. (used : List ℕ) → Resumes progress.old used →
         Shows incoming (Some inbox.new) (used ++ inbox.old))) }
     ensures begun { IfOk result (λ read. IfSome read (λ incoming. incoming ≢ Incoming.Ended)) }
     ensures next { IfOk result (λ read. IfSome read (λ _. progress.new ≡ Progress.Head)) }

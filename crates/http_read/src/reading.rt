@@ -72,11 +72,13 @@ fn read_one<R: Read>(
 
 /// Reads one request, at the front of what the inbox holds and then of what the reader gives.
 ///
-/// Behind a request the inbox and the reader have exactly the bytes that follow it. Behind a refusal or a fault it is open what they have:
-/// the connection is to be closed. No call that failed is made again. Before a first byte has come, only the inbox takes memory.
+/// Behind a request the inbox and the reader have exactly the bytes that follow it. Behind a refusal or a
+/// fault it is open what they have: the connection is to be closed. No call that failed is made again. Before
+/// a first byte has come, only the inbox takes memory.
 ///
-/// A head has at most 8,192 bytes and 64 field lines, a body 40,000 bytes. Beyond the inbox a call takes at most 90 KB for where field lines
-/// lie (2 KB for a head of up to 64), 40 KB for a body, and 8 KB each for a copy of the target and for its path.
+/// A head has at most 8,192 bytes and 64 field lines, a body 40,000 bytes. Beyond the inbox a call takes at
+/// most 90 KB for where field lines lie (2 KB for a head of up to 64), 40 KB for a body, and 8 KB each for a
+/// copy of the target and for its path.
 pub fn request<R: Read>(
     alloc: Global,
     reader: &mut Counted<R>,
@@ -84,8 +86,11 @@ pub fn request<R: Read>(
 ) -> Result<Incoming, ReadFault>
     ensures answer { IfOk result (λ incoming. IfSome (input_of inbox.old (R.remaining (inside reader.old)))
         (Shows incoming (input_of inbox.new (R.remaining (inside reader.new))))) }
-    ensures ended { IsErrOf result ReadFault.EndedEarly → IfSome (input_of inbox.old (R.remaining (inside reader.old))) (λ input. Answers input stops) }
-    ensures unread { IsErrOf result ReadFault.Read → StopsAt (input_of inbox.old (R.remaining (inside reader.old))) (R.remaining (inside reader.new)) IsCutShort }
+    ensures ended { IsErrOf result ReadFault.EndedEarly
+        → IfSome (input_of inbox.old (R.remaining (inside reader.old))) (λ input. Answers input stops) }
+    ensures unread { IsErrOf result ReadFault.Read
+        → StopsAt (input_of inbox.old (R.remaining (inside reader.old)))
+        (R.remaining (inside reader.new)) IsCutShort }
     ensures failed { IsErrOf result ReadFault.Read → RoseByOne (failed reader.old) (failed reader.new) }
     ensures quiet { ¬ (IsErrOf result ReadFault.Read) → failed reader.new ≡ failed reader.old }
 {

@@ -1,5 +1,6 @@
 -- A client's connection, without what carries its bytes.
-use Rattle.std.specs.Prelude.{◌≡◌, ℕ, suc, ◌<◌, ◌⊎◌, Bool, true, false, if◌then◌else◌, List, [], ◌++◌, length, Some, None}
+use Rattle.std.specs.Prelude.{◌≡◌, ℕ, suc, ◌<◌, ◌⊎◌, Bool, true, false, if◌then◌else◌, List, [], ◌++◌, length}
+use Rattle.std.specs.Prelude.{Some, None}
 use Rattle.std.specs.Io.KnownBytes.{Keeps, Consumes, IsAtEnd}
 use Rattle.http_read.specs.declared.progress.Progress.TheVariants.{Head}
 use Rattle.http_read.specs.Bytes.{End, IsSound, HasFailed, IsWritten}
@@ -31,7 +32,8 @@ answered connection = connection.answered
 -- This is what is left of all that came, without what the responses so far have used: what is used of the
 -- next request, and what is held.
 abbrev pub HasLeft : Connection → List ℕ → Type 0
-HasLeft connection left = (used : List ℕ) × Resumes connection.progress used × (left ≡ used ++ connection.inbox)
+HasLeft connection left =
+    (used : List ℕ) × Resumes connection.progress used × (left ≡ used ++ connection.inbox)
 
 -- requests are answered: no last response was made, and no call failed
 abbrev pub is_going : ConnectionState → Bool
@@ -65,7 +67,8 @@ pub record IsIdle (connection : Connection) : Type 0 where
 
 -- a call failed; or the last response was made, and is written whole
 abbrev pub IsDone : Connection → Type 0
-IsDone connection = (connection.state ≡ Failed) ⊎ ((connection.state ≡ Closing) × (length connection.outbox ≡ 0))
+IsDone connection =
+    (connection.state ≡ Failed) ⊎ ((connection.state ≡ Closing) × (length connection.outbox ≡ 0))
 
 -- a call failed: what waits is given up
 abbrev pub failed_connection : Connection → Connection
@@ -78,16 +81,22 @@ Reads read_outcome.Came old new reader =
     (more : List ℕ) × (0 < length more) × Consumes reader.before reader.after more × IsSound reader
     × (new ≡ record old { inbox = old.inbox ++ more })
 Reads read_outcome.Nothing old new reader = Keeps reader.before reader.after × HasFailed reader × (new ≡ old)
-Reads read_outcome.Ended old new reader = Keeps reader.before reader.after × IsAtEnd reader.after × IsSound reader × (new ≡ record old { state = Ended })
-Reads read_outcome.Failed old new reader = Keeps reader.before reader.after × HasFailed reader × (new ≡ failed_connection old)
+Reads read_outcome.Ended old new reader =
+    Keeps reader.before reader.after × IsAtEnd reader.after × IsSound reader
+    × (new ≡ record old { state = Ended })
+Reads read_outcome.Failed old new reader =
+    Keeps reader.before reader.after × HasFailed reader × (new ≡ failed_connection old)
 
--- What one writing did: a beginning of what waited was written, and the rest waits; the writer took none yet; or it failed.
+-- What one writing did: a beginning of what waited was written, and the rest waits; the writer took none yet;
+-- or it failed.
 abbrev pub Writes : WriteOutcome → Connection → Connection → End → Type 0
 Writes write_outcome.Written old new writer =
     (front : List ℕ) × (0 < length front) × (old.outbox ≡ front ++ new.outbox) × IsWritten writer front
     × (new ≡ record old { outbox = new.outbox })
-Writes write_outcome.Nothing old new writer = Keeps writer.before writer.after × HasFailed writer × (new ≡ old)
-Writes write_outcome.Failed old new writer = Keeps writer.before writer.after × HasFailed writer × (new ≡ failed_connection old)
+Writes write_outcome.Nothing old new writer =
+    Keeps writer.before writer.after × HasFailed writer × (new ≡ old)
+Writes write_outcome.Failed old new writer =
+    Keeps writer.before writer.after × HasFailed writer × (new ≡ failed_connection old)
 
 -- the response waits to be written, after those that wait. After a last one the connection is to be closed
 abbrev pub with_response : Connection → Message → Connection
@@ -97,8 +106,8 @@ with_response connection m = record connection {
   state = if m.stays then connection.state else Closing;
 }
 
--- a response to the request at the front of what is left: it waits now, after those that wait, and what follows
--- the request is left
+-- a response to the request at the front of what is left: it waits now, after those that wait, and what
+-- follows the request is left
 pub record IsAnswered {S : Type 0} (service : Offered S) (now after : S) (old new : Connection) : Type 0 where
   pub stays : Bool
   pub text : List ℕ

@@ -7,7 +7,9 @@ use Rattle.http_serve.specs.Talks.{IsOpenTalk, IsWholeTalk}
 
 -- exchanges were made, of whose responses this was written and the rest waits
 abbrev pub HasTalked : {S : Type 0} → Offered S → Connection → List ℕ → List ℕ → Type 0
-HasTalked service connection came said = (left : List ℕ) × HasLeft connection left × IsOpenTalk service came left (said ++ connection.outbox) connection.answered
+HasTalked service connection came said =
+    (left : List ℕ) × HasLeft connection left
+    × IsOpenTalk service came left (said ++ connection.outbox) connection.answered
 
 -- so it is, and the last response was made
 abbrev pub HasClosed : {S : Type 0} → Offered S → Connection → List ℕ → List ℕ → Type 0
@@ -23,11 +25,15 @@ pub record AreTalks {S : Type 0} (service : Offered S) : Type 0 where
   -- one response more was made
   pub answered : (old new : Connection) (now after : S) (came said : List ℕ) → HasTalked service old came said
       → (a : IsAnswered service now after old new)
-      → (a.stays ≡ true → HasTalked service new came said) × (a.stays ≡ false → HasClosed service new came said)
+      → (a.stays ≡ true → HasTalked service new came said)
+      × (a.stays ≡ false → HasClosed service new came said)
   -- no whole request was there
-  pub waited : (old new : Connection) (came said : List ℕ) → HasTalked service old came said → Waits old new → HasTalked service new came said
+  pub waited : (old new : Connection) (came said : List ℕ) → HasTalked service old came said → Waits old new
+      → HasTalked service new came said
   -- a part of what waited was written
-  pub told : (old : Connection) (came said front rest : List ℕ) → old.outbox ≡ front ++ rest → HasTalked service old came said
+  pub told : (old : Connection) (came said front rest : List ℕ) → old.outbox ≡ front ++ rest
+      → HasTalked service old came said
       → HasTalked service (record old { outbox = rest }) came (said ++ front)
-  pub told_last : (old : Connection) (came said front rest : List ℕ) → old.outbox ≡ front ++ rest → HasClosed service old came said
+  pub told_last : (old : Connection) (came said front rest : List ℕ) → old.outbox ≡ front ++ rest
+      → HasClosed service old came said
       → HasClosed service (record old { outbox = rest }) came (said ++ front)

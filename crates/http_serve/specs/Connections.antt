@@ -1,5 +1,6 @@
 -- What is written on a connection: the responses to its requests, one after another.
-use Rattle.std.specs.Prelude.{◌≡◌, ℕ, zero, suc, ◌⊎◌, Bool, true, false, ◌&&◌, nat_lt, List, [], ◌++◌, codes, bytes_eq, Option, Some, Result, Ok, Err}
+use Rattle.std.specs.Prelude.{◌≡◌, ℕ, zero, suc, ◌⊎◌, Bool, true, false, ◌&&◌, nat_lt, List, [], ◌++◌, codes}
+use Rattle.std.specs.Prelude.{bytes_eq, Option, Some, Result, Ok, Err}
 use Rattle.http_read.specs.Input.{StopsAt}
 use Rattle.http_read.specs.Requests.{Asked, asks, refuses, stops, ends, Answers, IsCutShort}
 use Rattle.http_serve.specs.declared.fault.ServeFault.{ServeFault}
@@ -19,14 +20,16 @@ abbrev pub may_stay : ℕ → Asked → Reply → Bool
 may_stay n request reply = stays_behind (may_keep n request.keep) reply
 
 -- the response to a request: what its path names, its reply, and the service as it leaves it
-pub record IsResponse {S : Type 0} (service : Offered S) (now : S) (request : Asked) (after : S) (reply : Reply) (stays : Bool) (text : List ℕ) : Type 0 where
+pub record IsResponse {S : Type 0} (service : Offered S) (now : S) (request : Asked) (after : S)
+    (reply : Reply) (stays : Bool) (text : List ℕ) : Type 0 where
   pub resource : Resource
   pub names : Names request.path resource
   pub replies : RepliesTo service now request resource after reply
   pub spelled : text ≡ print_reply stays (bytes_eq request.method (codes "HEAD")) reply
 
 -- the n-th request is at the front of the input, left is what follows it, and this is its response
-pub record IsExchange {S : Type 0} (service : Offered S) (n : ℕ) (now : S) (input left : List ℕ) (after : S) (stays : Bool) (text : List ℕ) : Type 0 where
+pub record IsExchange {S : Type 0} (service : Offered S) (n : ℕ) (now : S) (input left : List ℕ) (after : S)
+    (stays : Bool) (text : List ℕ) : Type 0 where
   pub request : Asked
   pub reply : Reply
   pub asked : Answers input (asks request left)
@@ -46,7 +49,8 @@ abbrev pub HasServed : {S : Type 0} → Offered S → ℕ → S → List ℕ →
 HasServed service zero now input after left text = (after ≡ now) × (left ≡ input) × (text ≡ [])
 HasServed {S} service (suc n) now input after left text =
     (mid : S) × (between : List ℕ) × (earlier : List ℕ) × (response : List ℕ)
-    × HasServed service n now input mid between earlier × IsExchange service (suc n) mid between left after true response
+    × HasServed service n now input mid between earlier
+    × IsExchange service (suc n) mid between left after true response
     × (text ≡ earlier ++ response)
 
 -- exchanges, and then a last response, which is whole
@@ -77,13 +81,17 @@ IsGivenUp {S} service P now input after text =
 -- the service is as it was, or the submission that the request at the front of the input asks for was refused
 abbrev pub MayRefuse : {S : Type 0} → Offered S → List ℕ → S → S → Type 0
 MayRefuse service input now after =
-    (after ≡ now) ⊎ ((request : Asked) × (left : List ℕ) × Answers input (asks request left) × Refuses service now request after)
+    (after ≡ now) ⊎ ((request : Asked) × (left : List ℕ) × Answers input (asks request left)
+    × Refuses service now request after)
 
--- What comes of a connection with this input, of which the reader has rest: the text that is written, and the service.
--- Ok: the last response was written, or the client sent no more. Read: what was taken of the next request ends before it does.
--- OutOfMemory: its submission was refused at most. EndedEarly: the input ends within a request, or before the first.
-abbrev pub Serves : {S T : Type 0} → Offered S → S → List ℕ → Option (List ℕ) → S → List ℕ → Result T ServeFault → Type 0
-Serves service now input rest after text (Ok _) = IsServed service now input after text ⊎ IsLeft service now input after text
+-- What comes of a connection with this input, of which the reader has rest: the text that is written, and the
+-- service. Ok: the last response was written, or the client sent no more. Read: what was taken of the next
+-- request ends before it does. OutOfMemory: its submission was refused at most. EndedEarly: the input ends
+-- within a request, or before the first.
+abbrev pub Serves : {S T : Type 0} → Offered S → S → List ℕ → Option (List ℕ) → S → List ℕ
+    → Result T ServeFault → Type 0
+Serves service now input rest after text (Ok _) =
+    IsServed service now input after text ⊎ IsLeft service now input after text
 Serves service now input rest after text (Err Read) =
     IsGivenUp service (λ left s t. StopsAt (Some left) rest IsCutShort × (t ≡ s)) now input after text
 Serves service now input rest after text (Err Write) = IsCutOff service now input after text

@@ -1,5 +1,6 @@
 -- One step of a connection: what comes of its next request.
-use Rattle.std.specs.Prelude.{◌≡◌, ℕ, zero, suc, Bool, true, false, List, [], ◌++◌, Option, Some, None, Result, Ok, Err, ⊤}
+use Rattle.std.specs.Prelude.{◌≡◌, ℕ, zero, suc, Bool, true, false, List, [], ◌++◌, Option, Some, None}
+use Rattle.std.specs.Prelude.{Result, Ok, Err, ⊤}
 use Rattle.http_read.specs.Input.{StopsAt}
 use Rattle.http_read.specs.Requests.{stops, ends, Answers, IsCutShort}
 use Rattle.http_serve.specs.declared.fault.ServeFault.{ServeFault}
@@ -20,15 +21,23 @@ Responds service n now input left after false text = IsLast service n now input 
 -- What becomes of the n-th request of a connection: the text that is written, and the service after it.
 -- `input` is what is left before the request, `left` is what is left after it, and the reader still has
 -- `rest` of it.
-abbrev pub Exchanges : {S : Type 0} → Offered S → ℕ → S → List ℕ → Option (List ℕ) → Option (List ℕ) → S → List ℕ → Result Next ServeFault → Type 0
-Exchanges service n now input left rest after text (Ok Stays) = Responds service n now input left after true text
-Exchanges service n now input left rest after text (Ok Closes) = Responds service n now input left after false text
-Exchanges service n now input left rest after text (Ok Ended) = Answers input ends × (after ≡ now) × (text ≡ [])
-Exchanges service n now input left rest after text (Err Read) = StopsAt (Some input) rest IsCutShort × (after ≡ now) × (text ≡ [])
+abbrev pub Exchanges : {S : Type 0} → Offered S → ℕ → S → List ℕ → Option (List ℕ) → Option (List ℕ) → S
+    → List ℕ → Result Next ServeFault → Type 0
+Exchanges service n now input left rest after text (Ok Stays) =
+    Responds service n now input left after true text
+Exchanges service n now input left rest after text (Ok Closes) =
+    Responds service n now input left after false text
+Exchanges service n now input left rest after text (Ok Ended) =
+    Answers input ends × (after ≡ now) × (text ≡ [])
+Exchanges service n now input left rest after text (Err Read) =
+    StopsAt (Some input) rest IsCutShort × (after ≡ now) × (text ≡ [])
 Exchanges service n now input left rest after text (Err Write) =
-    (stays : Bool) × (others : List ℕ) × (next : Option (List ℕ)) × Responds service n now input next after stays (text ++ others)
-Exchanges service n now input left rest after text (Err OutOfMemory) = MayRefuse service input now after × (text ≡ [])
-Exchanges service n now input left rest after text (Err EndedEarly) = Answers input stops × (after ≡ now) × (text ≡ [])
+    (stays : Bool) × (others : List ℕ) × (next : Option (List ℕ))
+    × Responds service n now input next after stays (text ++ others)
+Exchanges service n now input left rest after text (Err OutOfMemory) =
+    MayRefuse service input now after × (text ≡ [])
+Exchanges service n now input left rest after text (Err EndedEarly) =
+    Answers input stops × (after ≡ now) × (text ≡ [])
 
 -- how the connection goes on after a response
 abbrev pub next_behind : Bool → Next

@@ -27,4 +27,6 @@ pub record AsksReceipt (connection : Connection) (ticket : Ticket) : Type 0 wher
 
 -- and all of it seems to be there: a blank line ends what came
 abbrev pub HasAsked : Connection → Type 0
-HasAsked connection = IsTrue (ends_with nat_eq connection.inbox (codes "\r\n\r\n")) × ((ticket : Ticket) × AsksReceipt connection ticket)
+HasAsked connection =
+    IsTrue (ends_with nat_eq connection.inbox (codes "\r\n\r\n"))
+    × ((ticket : Ticket) × AsksReceipt connection ticket)

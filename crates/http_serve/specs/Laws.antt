@@ -15,10 +15,14 @@ NamesOne = (path : List ℕ) (a b : Resource) → Names path a → Names path b 
 -- Exchanges one after another are a connection.
 pub record AreConnection {S : Type 0} (service : Offered S) : Type 0 where
   -- one more, after which it stays
-  pub more : (n : ℕ) (now mid after : S) (input between left earlier response : List ℕ) (rest : Option (List ℕ))
-      → HasServed service n now input mid between earlier → Exchanges service (suc n) mid between (Some left) rest after response (Ok Stays)
+  pub more : (n : ℕ) (now mid after : S) (input between left earlier response : List ℕ)
+      (rest : Option (List ℕ))
+      → HasServed service n now input mid between earlier
+      → Exchanges service (suc n) mid between (Some left) rest after response (Ok Stays)
       → HasServed service (suc n) now input after left (earlier ++ response)
   -- the one that ends it
-  pub last : (n : ℕ) (now mid after : S) (input between earlier text : List ℕ) (left rest : Option (List ℕ)) (end : Result Next ServeFault) (r : Result ⊤ ServeFault)
-      → HasServed service n now input mid between earlier → Exchanges service (suc n) mid between left rest after text end
+  pub last : (n : ℕ) (now mid after : S) (input between earlier text : List ℕ) (left rest : Option (List ℕ))
+      (end : Result Next ServeFault) (r : Result ⊤ ServeFault)
+      → HasServed service n now input mid between earlier
+      → Exchanges service (suc n) mid between left rest after text end
       → ends_with n end ≡ Some r → Serves service now input rest after (earlier ++ text) r

@@ -3,7 +3,8 @@ use Rattle.std.specs.Prelude.{◌≡◌, ℕ, ◌^◌, ◌<◌, ◌⊎◌, List,
 use Rattle.std.specs.Fmt.{decimal}
 use Rattle.site_ids.specs.declared.Ticket.{Ticket}
 
--- a submission by its ticket, a ticket's receipt, the newest release's number, a page of a release, nothing, or a page of the newest release
+-- a submission by its ticket, a ticket's receipt, the newest release's number, a page of a release, nothing,
+-- or a page of the newest release
 pub data Resource : Type 0 where
   submission : Ticket → Resource
   receipt : Ticket → Resource
@@ -12,7 +13,8 @@ pub data Resource : Type 0 where
   unknown : Resource
   page : Resource
 
--- the path of a ticket below a word: both numbers in decimal, without leading zeros, in the range of their types
+-- the path of a ticket below a word: both numbers in decimal, without leading zeros, in the range of their
+-- types
 abbrev pub IsTicketPath : List ℕ → List ℕ → Ticket → Type 0
 IsTicketPath word path ticket =
     (ticket.editor < 2 ^ 32) × (ticket.number < 2 ^ 64)
@@ -20,7 +22,8 @@ IsTicketPath word path ticket =
 
 -- the path is kept for the server's own answers
 abbrev pub IsReserved : List ℕ → Type 0
-IsReserved path = ((rest : List ℕ) × (path ≡ codes "/_" ++ rest)) ⊎ ((rest : List ℕ) × (path ≡ codes "/@" ++ rest))
+IsReserved path =
+    ((rest : List ℕ) × (path ≡ codes "/_" ++ rest)) ⊎ ((rest : List ℕ) × (path ≡ codes "/@" ++ rest))
 
 -- the path names this resource of the server's own
 abbrev pub IsOwn : List ℕ → Resource → Type 0

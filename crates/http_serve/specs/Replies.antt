@@ -1,5 +1,6 @@
 -- The bytes of a response (RFC 9112, sections 4 and 5).
-use Rattle.std.specs.Prelude.{ℕ, Bool, true, false, not, ◌&&◌, ◌||◌, ◌==◌, if◌then◌else◌, List, [], ◌++◌, length, codes}
+use Rattle.std.specs.Prelude.{ℕ, Bool, true, false, not, ◌&&◌, ◌||◌, ◌==◌, if◌then◌else◌, List, [], ◌++◌}
+use Rattle.std.specs.Prelude.{length, codes}
 use Rattle.std.specs.Fmt.{decimal}
 use Rattle.percent_encoding.specs.Percent.{percent_encode}
 use Rattle.http_serve.specs.declared.replies.TheConstants.{ESCAPED}
@@ -39,7 +40,8 @@ reason status =
 -- its own line, and then rest (RFC 9110, sections 10.2.1 and 10.2.2)
 abbrev pub line_before : OwnLine → List ℕ → List ℕ
 line_before no_line rest = rest
-line_before (location path) rest = codes "Location: " ++ (percent_encode ESCAPED path ++ (codes "\r\n" ++ rest))
+line_before (location path) rest =
+    codes "Location: " ++ (percent_encode ESCAPED path ++ (codes "\r\n" ++ rest))
 line_before (allow methods) rest = codes "Allow: " ++ (methods ++ (codes "\r\n" ++ rest))
 
 -- the media type

@@ -1,5 +1,6 @@
 -- Which reply a request has.
-use Rattle.std.specs.Prelude.{◌≡◌, ℕ, ◌⊎◌, false, ◌==◌, if◌then◌else◌, List, [], ◌∷◌, ◌++◌, codes, Option, Some, None, Ok, Err, ⊤}
+use Rattle.std.specs.Prelude.{◌≡◌, ℕ, ◌⊎◌, false, ◌==◌, if◌then◌else◌, List, [], ◌∷◌, ◌++◌, codes, Option}
+use Rattle.std.specs.Prelude.{Some, None, Ok, Err, ⊤}
 use Rattle.std.specs.Fmt.{decimal}
 use Rattle.command.specs.Written.{line_of}
 use Rattle.release.specs.Page.{Page}
@@ -46,7 +47,8 @@ moved_line (Some path) = location path
 -- the page of a release, or that there is no such release
 abbrev pub page_reply : Option Page → Reply
 page_reply None = plain 404 (codes "no release")
-page_reply (Some p) = record { status = p.status; is_page = p.status == 200; own = moved_line p.location; body = p.body }
+page_reply (Some p) =
+    record { status = p.status; is_page = p.status == 200; own = moved_line p.location; body = p.body }
 
 -- what GET and HEAD are answered at a resource
 abbrev pub asked_reply : {S : Type 0} → Offered S → S → List ℕ → Resource → Reply
@@ -56,7 +58,8 @@ asked_reply service now path newest = plain 200 (decimal (service.newest_is now)
 asked_reply service now path (release n rest) = page_reply (service.page_is now n rest)
 asked_reply service now path unknown = plain 404 (codes "not found")
 asked_reply service now path page =
-    if service.newest_is now == 0 then page_reply None else page_reply (service.page_is now (service.newest_is now) path)
+    if service.newest_is now == 0 then page_reply None else page_reply
+    (service.page_is now (service.newest_is now) path)
 
 -- the answer to the outcome of a submission; none if an allocation failed
 abbrev pub outcome_reply : Outcome → Option Reply
@@ -72,7 +75,8 @@ abbrev pub RepliesToPost : {S : Type 0} → Offered S → S → List ℕ → Res
 RepliesToPost service now body (submission ticket) after reply =
     (done : Outcome) × Submits service now ticket body done after × (outcome_reply done ≡ Some reply)
 RepliesToPost service now body unknown after reply = (after ≡ now) × (reply ≡ plain 404 (codes "not found"))
-RepliesToPost service now body resource after reply = (after ≡ now) × (reply ≡ wrong_method (codes "GET, HEAD"))
+RepliesToPost service now body resource after reply =
+    (after ≡ now) × (reply ≡ wrong_method (codes "GET, HEAD"))
 
 -- if an allocation fails after a submission, this was its outcome: the words for the other outcomes were made
 -- before
@@ -98,4 +102,5 @@ pub record Refuses {S : Type 0} (service : Offered S) (now : S) (request : Asked
 abbrev pub RepliesTo : {S : Type 0} → Offered S → S → Asked → Resource → S → Reply → Type 0
 RepliesTo service now request resource after reply =
     ((request.method ≡ codes "POST") × RepliesToPost service now request.body resource after reply)
-    ⊎ (¬ (request.method ≡ codes "POST") × (after ≡ now) × (reply ≡ asked_reply service now request.path resource))
+    ⊎ (¬ (request.method ≡ codes "POST") × (after ≡ now)
+    × (reply ≡ asked_reply service now request.path resource))

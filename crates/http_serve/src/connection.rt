@@ -3,12 +3,15 @@
 //! If an allocation failed, the connection is over, and an earlier response is whole. A status of 400 closes
 //! it, whoever shows it.
 
-ghost use Rattle.std.specs.Prelude.{◌≡◌, ◌⊎◌, ◌<◌, ℕ, List, length, true, false, IfOk, OnErr, IsTrue, IsFalse, ◌↔◌, MatchOption};
+ghost use Rattle.std.specs.Prelude.{◌≡◌, ◌⊎◌, ◌<◌, ℕ, List, length, true, false, IfOk, OnErr, IsTrue};
+ghost use Rattle.std.specs.Prelude.{IsFalse, ◌↔◌, MatchOption};
 ghost use Rattle.http_read.specs.Bytes.{end_of};
 ghost use Rattle.http_serve.specs.Fronts.{AsksReceipt, HasAsked};
 ghost use Rattle.http_serve.specs.declared.messages.TheConstants.{REQUESTS};
 ghost use Rattle.http_serve.specs.declared.outbox.TheConstants.{WAITING};
-ghost use Rattle.http_serve.specs.ConnectionSteps.{owed, is_going, IsNew, MayRead, MayAnswer, IsIdle, IsDone, failed_connection, with_response, waiting, Reads, Writes, IsAnswered, Waits, GivesUp, answered as answered_of};
+ghost use Rattle.http_serve.specs.ConnectionSteps.{owed, is_going, IsNew, MayRead, MayAnswer, IsIdle, IsDone};
+ghost use Rattle.http_serve.specs.ConnectionSteps.{failed_connection, with_response, waiting, Reads, Writes};
+ghost use Rattle.http_serve.specs.ConnectionSteps.{IsAnswered, Waits, GivesUp, answered as answered_of};
 ghost use Rattle.http_serve.specs.Services.{MaySubmit};
 
 use crate::front::receipt_asked;
@@ -36,13 +39,15 @@ pub(crate) enum ConnectionState {
     Failed,
 }
 
-/// A client's connection, without what carries its bytes: a server holds many at once, and none waits for another.
+/// A client's connection, without what carries its bytes: a server holds many at once, and none waits for
+/// another.
 ///
 /// A server reads with `read_from` if the connection `may_read`, makes responses with `advance`, writes with
 /// `write_to` if the connection `owes` something, and closes it if it `is_done`. A client may send many
-/// requests at once. Their responses wait one after another, and go out together. While 16 KB of them wait, no
-/// further request is answered. Reading goes on meanwhile, up to 16 KB. After bytes that came, after the end of
-/// the client's input, and after bytes that were written, `advance` is called again, until it returns false.
+/// requests at once. Their responses wait one after another, and go out together. While 16 KB of them wait,
+/// no further request is answered. Reading goes on meanwhile, up to 16 KB. After bytes that came, after the
+/// end of the client's input, and after bytes that were written, `advance` is called again, until it returns
+/// false.
 #[derive(Drop)]
 pub struct Connection {
     inbox: Inbox,
@@ -87,7 +92,8 @@ impl Connection {
     /// Reads once. After the end of the client's input, or after a failure, nothing more is read.
     pub fn read_from<R: Read>(&mut self, reader: &mut Counted<R>) -> Result<ReadOutcome, AllocError>
         requires { MayRead self.old }
-        ensures read { IfOk result (λ read. Reads read self.old self.new (end_of R.remaining reader.old reader.new)) }
+        ensures read { IfOk result (λ read. Reads read self.old self.new
+            (end_of R.remaining reader.old reader.new)) }
         ensures memory { OnErr result ((self.new ≡ self.old) × (reader.new ≡ reader.old)) }
     {
         match self.inbox.read_from(reader)? {
@@ -115,7 +121,8 @@ impl Connection {
     /// bytes show the ticket, and none of them is used: so a server can leave the request until the receipt
     /// is there. A path that is percent-encoded is not seen.
     pub fn asks_receipt(&self) -> Option<Ticket>
-        ensures { MatchOption result ((ticket : Ticket) → ¬ (AsksReceipt self.now ticket)) (AsksReceipt self.now) }
+        ensures { MatchOption result ((ticket : Ticket) → ¬ (AsksReceipt self.now ticket))
+            (AsksReceipt self.now) }
     {
         if !self.may_answer() || self.progress.awaits().is_some() {
             return None;
@@ -123,7 +130,8 @@ impl Connection {
         receipt_asked(self.inbox.held())
     }
 
-    /// Whether the next request asks for a receipt, and all of it seems to be there: a blank line ends what came.
+    /// Whether the next request asks for a receipt, and all of it seems to be there: a blank line ends what
+    /// came.
     pub fn has_asked(&self) -> bool
         ensures { IsTrue result ↔ HasAsked self.now }
     {
@@ -149,10 +157,13 @@ impl Connection {
         service: &mut S,
         spans: &mut Vec<HeaderSpan>,
     ) -> Result<bool, AllocError>
-        ensures answered { IfOk result (λ did. did ≡ true → MayAnswer self.old × IsAnswered S.offered service.old service.new self.old self.new) }
+        ensures answered { IfOk result (λ did. did ≡ true
+            → MayAnswer self.old × IsAnswered S.offered service.old service.new self.old self.new) }
         ensures idle { IfOk result (λ did. did ≡ false → (service.new ≡ service.old)
-            × ((¬ (MayAnswer self.old) × (self.new ≡ self.old)) ⊎ (MayAnswer self.old × Waits self.old self.new))) }
-        ensures refused { OnErr result (MayAnswer self.old × GivesUp S.offered service.old service.new self.old self.new) }
+            × ((¬ (MayAnswer self.old) × (self.new ≡ self.old))
+            ⊎ (MayAnswer self.old × Waits self.old self.new))) }
+        ensures refused { OnErr result (MayAnswer self.old
+            × GivesUp S.offered service.old service.new self.old self.new) }
         ensures taken { MaySubmit S.offered service.old service.new }
     {
         if !self.may_answer() {
@@ -240,8 +251,8 @@ impl Connection {
         }
     }
 
-    /// Whether the connection is to be closed: a call failed, or the last response is written whole, or the client sends no more and what it
-    /// sent is answered.
+    /// Whether the connection is to be closed: a call failed, or the last response is written whole, or the
+    /// client sends no more and what it sent is answered.
     pub fn is_done(&self) -> bool
         ensures { IsTrue result ↔ IsDone self.now }
     {

@@ -3,13 +3,15 @@ use http_read::ReadFault;
 use std::alloc::AllocError;
 use thiserror::Error;
 
-/// Why a connection was given up. The responses to its earlier requests were written whole; what is said below is of the next one.
+/// Why a connection was given up. The responses to its earlier requests were written whole; what is said
+/// below is of the next one.
 #[derive(Clone, Copy, Debug, Drop, PartialEq, Eq, Error)]
 pub enum ServeFault {
     /// Number 1: a call of the reader failed. Nothing was written.
     #[error("the reader failed")]
     Read,
-    /// Number 2: a call of the writer failed. A beginning of the response was written, and a submission stays taken.
+    /// Number 2: a call of the writer failed. A beginning of the response was written, and a submission stays
+    /// taken.
     #[error("the writer failed")]
     Write,
     /// Number 3: nothing was written, and no submission was taken.

@@ -8,7 +8,8 @@ use site_ids::Ticket;
 
 /// What is got.
 fn target_of(bytes: &[u8]) -> Option<&[u8]>
-    ensures { MatchOption result ((target : List ℕ) → ¬ (Gets bytes.now target)) (λ target. Gets bytes.now target.now) }
+    ensures { MatchOption result ((target : List ℕ) → ¬ (Gets bytes.now target))
+        (λ target. Gets bytes.now target.now) }
 {
     let rest = after(bytes, b"GET ")?;
     let end = first_of(b' ', rest)?;
@@ -17,14 +18,16 @@ fn target_of(bytes: &[u8]) -> Option<&[u8]>
 
 /// The ticket whose receipt the path names.
 fn receipt_of(path: &[u8]) -> Option<Ticket>
-    ensures { MatchOption result ((ticket : Ticket) → ¬ (IsTicketPath (codes "/_ticket/") path.now ticket)) (IsTicketPath (codes "/_ticket/") path.now) }
+    ensures { MatchOption result ((ticket : Ticket) → ¬ (IsTicketPath (codes "/_ticket/") path.now ticket))
+        (IsTicketPath (codes "/_ticket/") path.now) }
 {
     ticket_in(after(path, b"/_ticket/")?)
 }
 
 /// The ticket whose receipt a request that begins with these bytes asks for.
 pub(crate) fn receipt_asked(bytes: &[u8]) -> Option<Ticket>
-    ensures { MatchOption result ((ticket : Ticket) → ¬ (GetsReceipt bytes.now ticket)) (GetsReceipt bytes.now) }
+    ensures { MatchOption result ((ticket : Ticket) → ¬ (GetsReceipt bytes.now ticket))
+        (GetsReceipt bytes.now) }
 {
     receipt_of(target_of(bytes)?)
 }

@@ -1,5 +1,6 @@
 //! The response to what was read of a connection.
-ghost use Rattle.std.specs.Prelude.{◌≡◌, ◌&&◌, ◌+◌, ◌<◌, ◌++◌, ℕ, suc, nat_lt, true, List, Option, None, IfOk, IfSome, IfNone, MatchOption, OnErr, length};
+ghost use Rattle.std.specs.Prelude.{◌≡◌, ◌&&◌, ◌+◌, ◌<◌, ◌++◌, ℕ, suc, nat_lt, true, List, Option, None};
+ghost use Rattle.std.specs.Prelude.{IfOk, IfSome, IfNone, MatchOption, OnErr, length};
 ghost use Rattle.http_read.specs.Incoming.{Shows};
 ghost use Rattle.http_read.specs.Progress.{Resumes, Waits};
 ghost use Rattle.http_serve.specs.Connections.{MayRefuse};
@@ -32,10 +33,12 @@ pub(crate) fn message_for<S: Service>(
     service: &mut S,
     answered: u32,
 ) -> Result<Option<Message>, AllocError>
-    ensures response { IfOk result (λ found. (input : List ℕ) (left : Option (List ℕ)) → Shows incoming left input
+    ensures response { IfOk result (λ found. (input : List ℕ) (left : Option (List ℕ))
+        → Shows incoming left input
         → Finds S.offered (suc answered) service.old input left service.new found) }
     ensures few { IfOk result (λ found. IfSome found (λ message. message.stays ≡ true → answered + 1 < 100)) }
-    ensures over { IfOk result (λ found. found ≡ None → (service.new ≡ service.old) × (incoming ≡ Incoming.Ended)) }
+    ensures over { IfOk result (λ found. found ≡ None
+        → (service.new ≡ service.old) × (incoming ≡ Incoming.Ended)) }
     ensures refused { OnErr result ((input : List ℕ) (left : Option (List ℕ)) → Shows incoming left input
         → MayRefuse S.offered input service.old service.new) }
     ensures taken { MaySubmit S.offered service.old service.new }
@@ -68,8 +71,10 @@ pub(crate) fn next_response<S: Service>(
     ensures few { IfOk result (λ found. IfSome found (λ made. made.0.stays ≡ true → answered + 1 < 100)) }
     ensures room { IfOk result (λ found. IfSome found (λ made.
         MatchOption made.1 (length outbox.now ≡ 0) (λ _. 0 < length outbox.now))) }
-    ensures waits { IfOk result (λ found. IfNone found (Waits progress.old progress.new inbox.old inbox.new × (service.new ≡ service.old))) }
-    ensures refused { OnErr result ((used : List ℕ) → Resumes progress.old used → MayRefuse S.offered (used ++ inbox.old) service.old service.new) }
+    ensures waits { IfOk result (λ found. IfNone found
+        (Waits progress.old progress.new inbox.old inbox.new × (service.new ≡ service.old))) }
+    ensures refused { OnErr result ((used : List ℕ) → Resumes progress.old used
+        → MayRefuse S.offered (used ++ inbox.old) service.old service.new) }
     ensures taken { MaySubmit S.offered service.old service.new }
 {
     let Some(incoming) = advance(alloc, progress, inbox, spans)? else {

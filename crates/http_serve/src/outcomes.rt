@@ -31,7 +31,8 @@ pub enum WriteOutcome {
 
 /// Whether a call that failed only came too early, or was interrupted: it can be made again.
 pub fn is_early(e: &io::Error) -> bool
-    ensures { result ≡ true ↔ (error_kind e.now ≡ ErrorKind.WouldBlock ⊎ error_kind e.now ≡ ErrorKind.Interrupted) }
+    ensures { result ≡ true ↔ (error_kind e.now ≡ ErrorKind.WouldBlock
+        ⊎ error_kind e.now ≡ ErrorKind.Interrupted) }
 {
     matches!(e.kind(), ErrorKind::WouldBlock | ErrorKind::Interrupted)
 }

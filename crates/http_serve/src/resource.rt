@@ -1,5 +1,6 @@
 //! What a decoded path names.
-ghost use Rattle.std.specs.Prelude.{◌≡◌, ◌≢◌, ℕ, ◌+◌, ◌<◌, ◌^◌, List, ◌++◌, length, drop, codes, slice_index, MatchOption, decimal};
+ghost use Rattle.std.specs.Prelude.{◌≡◌, ◌≢◌, ℕ, ◌+◌, ◌<◌, ◌^◌, List, ◌++◌, length, drop, codes, slice_index};
+ghost use Rattle.std.specs.Prelude.{MatchOption, decimal};
 ghost use Rattle.http_serve.specs.Paths.{Resource as Meant, Names, IsOwn};
 ghost use Rattle.http_serve.specs.Resources.{resource_shown};
 
@@ -20,7 +21,8 @@ pub(crate) enum Resource<'a> {
 /// The first place of the byte.
 pub(crate) fn first_of(byte: u8, bytes: &[u8]) -> Option<usize>
     ensures { MatchOption result ((k : ℕ) → k < length bytes.now → slice_index bytes.now k ≢ byte)
-        (λ at. (at < length bytes.now) × (slice_index bytes.now at ≡ byte) × ((k : ℕ) → k < at → slice_index bytes.now k ≢ byte)) }
+        (λ at. (at < length bytes.now) × (slice_index bytes.now at ≡ byte)
+        × ((k : ℕ) → k < at → slice_index bytes.now k ≢ byte)) }
 {
     for i in 0..bytes.len() {
         if bytes[i] == byte {
@@ -32,7 +34,8 @@ pub(crate) fn first_of(byte: u8, bytes: &[u8]) -> Option<usize>
 
 /// What follows the prefix.
 pub(crate) fn after<'a>(bytes: &'a [u8], prefix: &[u8]) -> Option<&'a [u8]>
-    ensures { MatchOption result ((rest : List ℕ) → bytes.now ≢ prefix.now ++ rest) (λ rest. bytes.now ≡ prefix.now ++ rest.now) }
+    ensures { MatchOption result ((rest : List ℕ) → bytes.now ≢ prefix.now ++ rest)
+        (λ rest. bytes.now ≡ prefix.now ++ rest.now) }
 {
     bytes.strip_prefix(prefix)
 }
@@ -40,8 +43,10 @@ pub(crate) fn after<'a>(bytes: &'a [u8], prefix: &[u8]) -> Option<&'a [u8]>
 /// The ticket whose numbers these are, parted by a slash.
 pub(crate) fn ticket_in(rest: &[u8]) -> Option<Ticket>
     ensures { MatchOption result
-        ((editor number : ℕ) → editor < 2 ^ 32 → number < 2 ^ 64 → rest.now ≢ decimal editor ++ (codes "/" ++ decimal number))
-        (λ t. (t.editor < 2 ^ 32) × (t.number < 2 ^ 64) × (rest.now ≡ decimal t.editor ++ (codes "/" ++ decimal t.number))) }
+        ((editor number : ℕ) → editor < 2 ^ 32 → number < 2 ^ 64
+        → rest.now ≢ decimal editor ++ (codes "/" ++ decimal number))
+        (λ t. (t.editor < 2 ^ 32) × (t.number < 2 ^ 64)
+        × (rest.now ≡ decimal t.editor ++ (codes "/" ++ decimal t.number))) }
 {
     let at = first_of(b'/', rest)?;
     let editor = read_number(&rest[..at])?;
@@ -57,8 +62,10 @@ pub(crate) fn ticket_in(rest: &[u8]) -> Option<Ticket>
 
 /// The number of a release, and the place where the path in it begins.
 fn release_in(rest: &[u8]) -> Option<(u64, usize)>
-    ensures { MatchOption result ((n : ℕ) (tail : List ℕ) → n < 2 ^ 64 → rest.now ≢ decimal n ++ (codes "/" ++ tail))
-        (λ r. (r.0 < 2 ^ 64) × (r.1 < length rest.now) × (slice_index rest.now r.1 ≡ 47) × (rest.now ≡ decimal r.0 ++ drop r.1 rest.now)) }
+    ensures { MatchOption result ((n : ℕ) (tail : List ℕ) → n < 2 ^ 64
+        → rest.now ≢ decimal n ++ (codes "/" ++ tail))
+        (λ r. (r.0 < 2 ^ 64) × (r.1 < length rest.now) × (slice_index rest.now r.1 ≡ 47)
+        × (rest.now ≡ decimal r.0 ++ drop r.1 rest.now)) }
 {
     let at = first_of(b'/', rest)?;
     let n = read_number(&rest[..at])?;
@@ -67,7 +74,8 @@ fn release_in(rest: &[u8]) -> Option<(u64, usize)>
 
 /// What the path names of the server's own resources.
 fn own_resource(path: &str) -> Option<Resource<'_>>
-    ensures { MatchOption result ((resource : Meant) → ¬ (IsOwn path.now resource)) (λ resource. IsOwn path.now (resource_shown resource)) }
+    ensures { MatchOption result ((resource : Meant) → ¬ (IsOwn path.now resource))
+        (λ resource. IsOwn path.now (resource_shown resource)) }
 {
     let bytes = path.as_bytes();
     if let Some(rest) = after(bytes, b"/_submit/") {

@@ -6,7 +6,10 @@ ghost use Rattle.http_serve.specs.Paths.{submission};
 ghost use Rattle.http_serve.specs.Resources.{resource_shown};
 ghost use Rattle.http_serve.specs.Shown.{line_of as line_shown, written_in, write_as, closing, whole};
 ghost use Rattle.http_serve.specs.Replies.{Reply, stays_behind};
-ghost use Rattle.http_serve.specs.Responses.{plain as plain_reply, refusal, wrong_method as wrong_reply, receipt_reply, moved_line as moved_reply, page_reply, asked_reply, outcome_reply, line, RepliesToPost, RefusesPost, Refuses};
+ghost use Rattle.http_serve.specs.Responses.{plain as plain_reply, refusal, wrong_method as wrong_reply};
+ghost use Rattle.http_serve.specs.Responses.{receipt_reply, moved_line as moved_reply, page_reply};
+ghost use Rattle.http_serve.specs.Responses.{asked_reply, outcome_reply, line, RepliesToPost, RefusesPost};
+ghost use Rattle.http_serve.specs.Responses.{Refuses};
 ghost use Rattle.http_serve.specs.Services.{Outcome, Submits};
 
 use crate::fixed::{FixedReply, Room};
@@ -95,7 +98,8 @@ fn receipt<S: Service>(
     service: &S,
     ticket: Ticket,
 ) -> Result<Message, AllocError>
-    ensures { IfOk result (λ message. written_in message ≡ write_as manner (receipt_reply (S.offered.receipt_is service.now ticket))) }
+    ensures { IfOk result (λ message. written_in message
+        ≡ write_as manner (receipt_reply (S.offered.receipt_is service.now ticket))) }
 {
     match service.receipt(ticket) {
         Some(instance) => number(alloc, manner, instance.number() as u64),
@@ -121,7 +125,8 @@ fn page<S: Service>(
     n: u64,
     path: &str,
 ) -> Result<Message, AllocError>
-    ensures { IfOk result (λ message. written_in message ≡ write_as manner (page_reply (S.offered.page_is service.now n path.now))) }
+    ensures { IfOk result (λ message. written_in message
+        ≡ write_as manner (page_reply (S.offered.page_is service.now n path.now))) }
 {
     match service.answer(alloc, n, path) {
         Ok(
@@ -157,7 +162,8 @@ fn shown<S: Service>(
     path: &str,
     resource: Resource<'_>,
 ) -> Result<Message, AllocError>
-    ensures { IfOk result (λ message. written_in message ≡ write_as manner (asked_reply S.offered service.now path.now (resource_shown resource.entry))) }
+    ensures { IfOk result (λ message. written_in message
+        ≡ write_as manner (asked_reply S.offered service.now path.now (resource_shown resource.entry))) }
 {
     match resource {
         Resource::Submission(_) => wrong_method(alloc, manner, "POST"),
@@ -184,7 +190,8 @@ fn submitted<S: Service>(
     ensures answered { IfOk result (λ message. (done : Outcome) × (reply : Reply)
         × Submits S.offered service.old ticket text.now done service.new
         × (outcome_reply done ≡ Some reply) × (written_in message ≡ write_as (whole keep) reply)) }
-    ensures refused { OnErr result ((service.new ≡ service.old) ⊎ RefusesPost S.offered service.old text.now (submission ticket) service.new) }
+    ensures refused { OnErr result ((service.new ≡ service.old)
+        ⊎ RefusesPost S.offered service.old text.now (submission ticket) service.new) }
 {
     let room = Room::new(alloc)?;
     match service.submit(alloc, ticket, text) {
@@ -215,7 +222,8 @@ fn posted<S: Service>(
     ensures answered { IfOk result (λ message. (reply : Reply)
         × RepliesToPost S.offered service.old body.now (resource_shown resource.entry) service.new reply
         × (written_in message ≡ write_as (whole keep) reply)) }
-    ensures refused { OnErr result ((service.new ≡ service.old) ⊎ RefusesPost S.offered service.old body.now (resource_shown resource.entry) service.new) }
+    ensures refused { OnErr result ((service.new ≡ service.old)
+        ⊎ RefusesPost S.offered service.old body.now (resource_shown resource.entry) service.new) }
 {
     let manner = Manner {
         to_head: false,
@@ -239,8 +247,10 @@ pub(crate) fn respond<S: Service>(
     service: &mut S,
 ) -> Result<Message, AllocError>
     ensures answered { IfOk result (λ message. (reply : Reply) × (message.stays ≡ stays_behind keep reply)
-        × IsResponse S.offered service.old (request_of request.now) service.new reply message.stays message.bytes.items) }
-    ensures refused { OnErr result ((service.new ≡ service.old) ⊎ Refuses S.offered service.old (request_of request.now) service.new) }
+        × IsResponse S.offered service.old
+        (request_of request.now) service.new reply message.stays message.bytes.items) }
+    ensures refused { OnErr result ((service.new ≡ service.old)
+        ⊎ Refuses S.offered service.old (request_of request.now) service.new) }
 {
     let path = request.path.as_str();
     let resource = resource_of(path);

@@ -24,7 +24,8 @@ pub trait Service {
     /// The page of release n for a path.
     fn answer(&self, alloc: Global, n: u64, path: &str) -> Result<Answer, AnswerFault>
         ensures page { IfOk result (λ a. offered.page_is self.now n path.now ≡ Some (answer_view a)) }
-        ensures none { IsErrOf result AnswerFault.NoSuchRelease → offered.page_is self.now n path.now ≡ None };
+        ensures none { IsErrOf result AnswerFault.NoSuchRelease
+            → offered.page_is self.now n path.now ≡ None };
 
     /// The instance at which a ticket's command is known.
     fn receipt(&self, ticket: Ticket) -> Option<Instance>

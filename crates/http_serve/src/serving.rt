@@ -32,14 +32,16 @@ fn next_message<R: Read, S: Service>(
     answered: u32,
 ) -> Result<Option<Message>, ServeFault>
     ensures response { IfOk result (λ found. IfSome (input_of inbox.old (R.remaining (inside reader.old)))
-        (λ input. Finds S.offered (suc answered) service.old input (input_of inbox.new (R.remaining (inside reader.new))) service.new found)) }
+        (λ input. Finds S.offered (suc answered) service.old input
+        (input_of inbox.new (R.remaining (inside reader.new))) service.new found)) }
     ensures few { IfOk result (λ found. IfSome found (λ message. message.stays ≡ true → answered + 1 < 100)) }
     ensures over { IfOk result (λ found. found ≡ None → service.new ≡ service.old) }
     ensures unread { IsErrOf result ServeFault.Read →
         StopsAt (input_of inbox.old (R.remaining (inside reader.old))) (R.remaining (inside reader.new)) IsCutShort }
     ensures ended { IsErrOf result ServeFault.EndedEarly →
         IfSome (input_of inbox.old (R.remaining (inside reader.old))) (λ input. Answers input stops) }
-    ensures unasked { (IsErrOf result ServeFault.Read ⊎ IsErrOf result ServeFault.EndedEarly) → service.new ≡ service.old }
+    ensures unasked { (IsErrOf result ServeFault.Read ⊎ IsErrOf result ServeFault.EndedEarly)
+        → service.new ≡ service.old }
     ensures refused { IsErrOf result ServeFault.OutOfMemory →
         IfSome (input_of inbox.old (R.remaining (inside reader.old))) (λ input. MayRefuse S.offered input service.old service.new) }
     ensures unwritten { ¬ (IsErrOf result ServeFault.Write) }
@@ -65,17 +67,26 @@ pub fn exchange<R: Read, W: Write, S: Service>(
     answered: u32,
 ) -> Result<Next, ServeFault>
     ensures answered { IfSome (input_of inbox.old (R.remaining (inside reader.old))) (λ input. (text : List ℕ)
-        × Exchanges S.offered (suc answered) service.old input (input_of inbox.new (R.remaining (inside reader.new))) (R.remaining (inside reader.new)) service.new text result
+        × Exchanges S.offered (suc answered) service.old input
+        (input_of inbox.new (R.remaining (inside reader.new)))
+        (R.remaining (inside reader.new)) service.new text result
         × Appends (W.contents (inside writer.old)) (W.contents (inside writer.new)) text) }
     ensures few { IfOk result (λ next. next ≡ Next.Stays → answered + 1 < 100) }
     ensures taken { MaySubmit S.offered service.old service.new }
-    ensures unasked { (IsErrOf result ServeFault.Read ⊎ IsErrOf result ServeFault.EndedEarly) → service.new ≡ service.old }
-    ensures over { IfOk result (λ next. next ≡ Next.Ended → (service.new ≡ service.old) × IsSilent (end_of W.contents writer.old writer.new)) }
-    ensures silent { (IsErrOf result ServeFault.Read ⊎ IsErrOf result ServeFault.OutOfMemory ⊎ IsErrOf result ServeFault.EndedEarly) → IsSilent (end_of W.contents writer.old writer.new) }
-    ensures read_failed { IsErrOf result ServeFault.Read → HasFailed (end_of R.remaining reader.old reader.new) }
-    ensures read_sound { ¬ (IsErrOf result ServeFault.Read) → IsSound (end_of R.remaining reader.old reader.new) }
-    ensures write_failed { IsErrOf result ServeFault.Write → HasFailed (end_of W.contents writer.old writer.new) }
-    ensures write_sound { ¬ (IsErrOf result ServeFault.Write) → IsSound (end_of W.contents writer.old writer.new) }
+    ensures unasked { (IsErrOf result ServeFault.Read ⊎ IsErrOf result ServeFault.EndedEarly)
+        → service.new ≡ service.old }
+    ensures over { IfOk result (λ next. next ≡ Next.Ended
+        → (service.new ≡ service.old) × IsSilent (end_of W.contents writer.old writer.new)) }
+    ensures silent { (IsErrOf result ServeFault.Read ⊎ IsErrOf result ServeFault.OutOfMemory
+        ⊎ IsErrOf result ServeFault.EndedEarly) → IsSilent (end_of W.contents writer.old writer.new) }
+    ensures read_failed { IsErrOf result ServeFault.Read
+        → HasFailed (end_of R.remaining reader.old reader.new) }
+    ensures read_sound { ¬ (IsErrOf result ServeFault.Read)
+        → IsSound (end_of R.remaining reader.old reader.new) }
+    ensures write_failed { IsErrOf result ServeFault.Write
+        → HasFailed (end_of W.contents writer.old writer.new) }
+    ensures write_sound { ¬ (IsErrOf result ServeFault.Write)
+        → IsSound (end_of W.contents writer.old writer.new) }
 {
     match next_message(alloc, reader, inbox, service, answered)? {
         Some(message) => match write_all(writer, message.bytes.as_slice()) {
@@ -97,13 +108,19 @@ pub fn serve<R: Read, W: Write, S: Service>(
     writer: &mut Counted<W>,
     service: &mut S,
 ) -> Result<(), ServeFault>
-    ensures answered { IfSome (R.remaining (inside reader.old)) (λ input. (text : List ℕ) × Serves S.offered service.old input (R.remaining (inside reader.new)) service.new text result
+    ensures answered { IfSome (R.remaining (inside reader.old))
+        (λ input. (text : List ℕ)
+        × Serves S.offered service.old input (R.remaining (inside reader.new)) service.new text result
         × Appends (W.contents (inside writer.old)) (W.contents (inside writer.new)) text) }
     ensures taken { (n : ℕ) × (n ≤ 100) × MaySubmitMany S.offered n service.old service.new }
-    ensures read_failed { IsErrOf result ServeFault.Read → HasFailed (end_of R.remaining reader.old reader.new) }
-    ensures read_sound { ¬ (IsErrOf result ServeFault.Read) → IsSound (end_of R.remaining reader.old reader.new) }
-    ensures write_failed { IsErrOf result ServeFault.Write → HasFailed (end_of W.contents writer.old writer.new) }
-    ensures write_sound { ¬ (IsErrOf result ServeFault.Write) → IsSound (end_of W.contents writer.old writer.new) }
+    ensures read_failed { IsErrOf result ServeFault.Read
+        → HasFailed (end_of R.remaining reader.old reader.new) }
+    ensures read_sound { ¬ (IsErrOf result ServeFault.Read)
+        → IsSound (end_of R.remaining reader.old reader.new) }
+    ensures write_failed { IsErrOf result ServeFault.Write
+        → HasFailed (end_of W.contents writer.old writer.new) }
+    ensures write_sound { ¬ (IsErrOf result ServeFault.Write)
+        → IsSound (end_of W.contents writer.old writer.new) }
 {
     let mut inbox = Inbox::new(alloc);
     let mut answered = 0;

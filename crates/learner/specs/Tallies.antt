@@ -15,7 +15,8 @@ HasNoneOf tallies b v = (x : Tally) → In tallies x → ¬ IsOf x b v
 
 -- the first tally of v at b has place k
 abbrev pub IsFirstOf : List Tally → ℕ → BallotOf → List ℕ → Type 0
-IsFirstOf tallies k b v = (x : Tally) × (slice_get tallies k ≡ Some x) × IsOf x b v × HasNoneOf (take k tallies) b v
+IsFirstOf tallies k b v =
+    (x : Tally) × (slice_get tallies k ≡ Some x) × IsOf x b v × HasNoneOf (take k tallies) b v
 
 -- node p reported a vote for v at b: it is in the first tally of v at b
 abbrev pub HasTold : List Tally → ℕ → BallotOf → List ℕ → Type 0
@@ -24,4 +25,6 @@ HasTold (x ∷ xs) p b v = (IsOf x b v × HasNode x.nodes p) ⊎ ((¬ IsOf x b v
 
 -- the new tallies count what the old ones do, and that p reported a vote for v at b
 abbrev pub AddsTold : List Tally → List Tally → ℕ → BallotOf → List ℕ → Type 0
-AddsTold old new p b v = (q : ℕ) (c : BallotOf) (w : List ℕ) → HasTold new q c w ↔ (HasTold old q c w ⊎ ((q ≡ p) × (c ≡ b) × (w ≡ v)))
+AddsTold old new p b v =
+    (q : ℕ) (c : BallotOf) (w : List ℕ)
+    → HasTold new q c w ↔ (HasTold old q c w ⊎ ((q ≡ p) × (c ≡ b) × (w ≡ v)))

@@ -40,8 +40,12 @@ impl Learner {
         value: &Value,
     ) -> Result<Option<Value>, AllocError>
         ensures cluster { self.new.cluster ≡ self.old.cluster }
-        ensures added { OnOk result ((t : ToldVote) → IsTold self.new t ↔ IsToldWith self.old (told_vote from instance ballot value.now) t) }
-        ensures chosen { IfOk result (λ chosen. MatchOption chosen (¬ HasMajority self.old.cluster (IsTold self.new) instance ballot value.now) (λ v. (v ≡ value.now) × HasMajority self.old.cluster (IsTold self.new) instance ballot value.now)) }
+        ensures added { OnOk result ((t : ToldVote)
+            → IsTold self.new t ↔ IsToldWith self.old (told_vote from instance ballot value.now) t) }
+        ensures chosen { IfOk result (λ chosen. MatchOption chosen
+            (¬ HasMajority self.old.cluster (IsTold self.new) instance ballot value.now)
+            (λ v. (v ≡ value.now)
+            × HasMajority self.old.cluster (IsTold self.new) instance ballot value.now)) }
         ensures refused { OnErr result ((t : ToldVote) → IsTold self.new t ↔ IsTold self.old t) }
     {
         let chosen = if self.completes(from, instance, ballot, value) {
@@ -55,7 +59,8 @@ impl Learner {
 
     /// Whether `on_accepted`, with the same arguments, would return the value.
     pub fn completes(&self, from: NodeId, instance: Instance, ballot: Ballot, value: &Value) -> bool
-        ensures { IsTrue result ↔ HasMajority self.now.cluster (IsToldWith self.now (told_vote from instance ballot value.now)) instance ballot value.now }
+        ensures { IsTrue result ↔ HasMajority self.now.cluster
+            (IsToldWith self.now (told_vote from instance ballot value.now)) instance ballot value.now }
     {
         let nodes = nodes_of(self.at(instance), ballot, value).with(from);
         u32::from(self.cluster.quorum()) <= nodes.count_in(self.cluster)
@@ -86,7 +91,8 @@ impl Learner {
         value: &Value,
     ) -> Result<(), AllocError>
         ensures cluster { self.new.cluster ≡ self.old.cluster }
-        ensures added { OnOk result ((t : ToldVote) → IsTold self.new t ↔ IsToldWith self.old (told_vote from instance ballot value.now) t) }
+        ensures added { OnOk result ((t : ToldVote)
+            → IsTold self.new t ↔ IsToldWith self.old (told_vote from instance ballot value.now) t) }
         ensures refused { OnErr result ((t : ToldVote) → IsTold self.new t ↔ IsTold self.old t) }
     {
         let at = instance.number();
@@ -102,7 +108,8 @@ fn add_at(
     ballot: Ballot,
     value: &Value,
 ) -> Result<(), AllocError>
-    ensures added { OnOk result (AddsTold (tallies_in tallies.old at) (tallies_in tallies.new at) from ballot value.now) }
+    ensures added { OnOk result (AddsTold (tallies_in tallies.old at)
+        (tallies_in tallies.new at) from ballot value.now) }
     ensures others { (other : ℕ) → other ≢ at → tallies_in tallies.new other ≡ tallies_in tallies.old other }
     ensures refused { OnErr result (tallies_in tallies.new at ≡ tallies_in tallies.old at) }
 {

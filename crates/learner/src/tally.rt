@@ -22,7 +22,8 @@ pub(crate) struct Tally {
 impl Tally {
     /// The tally of one vote.
     fn started(from: NodeId, ballot: Ballot, value: &Value) -> Result<Tally, AllocError>
-        ensures { IfOk result (λ tally. IsOf tally ballot value.now × ((p : ℕ) → HasNode tally.nodes p ↔ (p ≡ from))) }
+        ensures { IfOk result (λ tally. IsOf tally ballot value.now
+            × ((p : ℕ) → HasNode tally.nodes p ↔ (p ≡ from))) }
     {
         Ok(Tally {
             ballot,
@@ -71,7 +72,8 @@ pub(crate) fn add_to(
 
 // The place of the tally of this value at this ballot.
 fn place_of(tallies: &[Tally], ballot: Ballot, value: &Value) -> Option<usize>
-    ensures { MatchOption result (HasNoneOf tallies.now ballot value.now) (λ at. IsFirstOf tallies.now at ballot value.now) }
+    ensures { MatchOption result (HasNoneOf tallies.now ballot value.now)
+        (λ at. IsFirstOf tallies.now at ballot value.now) }
 {
     for (at, tally) in tallies.iter().enumerate() {
         if tally.is_of(ballot, value) {

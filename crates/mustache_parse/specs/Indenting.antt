@@ -1,5 +1,6 @@
 -- What indenting a text does to its pieces. It neither gives a text a tree nor takes one away.
-use Rattle.std.specs.Prelude.{◌≡◌, ◌<◌, ◌↔◌, ℕ, true, false, ◌==◌, List, [], ◌∷◌, ◌++◌, map, length, Option, None, Some, Ok, IsTrue}
+use Rattle.std.specs.Prelude.{◌≡◌, ◌<◌, ◌↔◌, ℕ, true, false, ◌==◌, List, [], ◌∷◌, ◌++◌, map, length, Option}
+use Rattle.std.specs.Prelude.{None, Some, Ok, IsTrue}
 use Rattle.std.specs.List.{list_all}
 use Rattle.mustache_scan.specs.Cutting.{is_blank}
 use Rattle.mustache_scan.specs.Names.{braces}
@@ -43,7 +44,8 @@ spread_pieces w (Some kind) ps = spread_inner w ps
 -- pieces with `w` in front of the first one: at the front of a literal, or as a literal before a tag
 abbrev pub with_front : List ℕ → List Piece → List Piece
 with_front w [] = literal w
-with_front w (p ∷ ps) = elim (is_literal p.kind) [ true ↦ with_bytes (w ++ p.bytes) p ∷ ps | false ↦ literal w ++ p ∷ ps ]
+with_front w (p ∷ ps) =
+    elim (is_literal p.kind) [ true ↦ with_bytes (w ++ p.bytes) p ∷ ps | false ↦ literal w ++ p ∷ ps ]
 
 -- the pieces of a text that is not empty, after it is indented
 abbrev pub indented_pieces : List ℕ → Pieces → Pieces
@@ -55,7 +57,9 @@ AreBlank w = IsTrue (list_all is_blank w)
 
 -- Indenting changes only the bytes of pieces: kinds, names and the kind of a fault stay.
 abbrev pub IndentsPieces : Type 0
-IndentsPieces = (w t : List ℕ) → AreBlank w → 0 < length t → reading braces (indented w t) ≡ indented_pieces w (reading braces t)
+IndentsPieces =
+    (w t : List ℕ) → AreBlank w → 0 < length t
+    → reading braces (indented w t) ≡ indented_pieces w (reading braces t)
 
 -- a text that has a tree
 abbrev pub HasTree : List ℕ → Type 0

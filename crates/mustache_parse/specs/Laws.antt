@@ -8,7 +8,8 @@ use Rattle.mustache_scan.specs.declared.fault.TemplateFault.{TemplateFault}
 
 -- Tokens nest into a tree if and only if they make it, and no more sections are open at once than allowed.
 abbrev pub TreeIsMade : Type 0
-TreeIsMade = (ts : List TokenSeen) (tree : Tree) → (nested ts ≡ Ok tree) ↔ (Makes ts tree × (depth tree ≤ max_open))
+TreeIsMade =
+    (ts : List TokenSeen) (tree : Tree) → (nested ts ≡ Ok tree) ↔ (Makes ts tree × (depth tree ≤ max_open))
 
 -- A list of tokens makes at most one tree.
 abbrev pub MakesAtMostOne : Type 0

@@ -5,7 +5,8 @@ use Rattle.mustache_scan.specs.declared.token.TokenKind.{TokenKind}
 use Rattle.mustache_scan.specs.declared.token.TokenKind.TheVariants.{Literal}
 use Rattle.mustache_parse.specs.Indent.{indented}
 use Rattle.mustache_parse.specs.Indenting.{spread, after_each, AreBlank}
-use Rattle.mustache_parse.specs.Tree.{Tree, nothing, text, Levels, last, onto, with_token, first_level, tree_of}
+use Rattle.mustache_parse.specs.Tree.{Tree, nothing, text, Levels, last, onto, with_token, first_level}
+use Rattle.mustache_parse.specs.Tree.{tree_of}
 
 -- A literal under a margin. `leads` says that it begins a line, and `trails` that a tag follows on its last
 -- line.
@@ -44,7 +45,8 @@ goes_on (m ∷ ms) = not m.is_alone
 -- a token in front of levels. A tag that begins a line and is not standalone has the margin before it
 abbrev pub with_marked : List ℕ → (leads trails : Bool) → Marked → TokenKind → Levels → Levels
 with_marked w leads trails m Literal ls = onto (text_onto (literal_under w leads trails m.token.text)) ls
-with_marked w leads trails m kind ls = onto (text_onto (literal_under w leads (not m.is_alone) [])) (with_token (tag_under w m) kind ls)
+with_marked w leads trails m kind ls =
+    onto (text_onto (literal_under w leads (not m.is_alone) [])) (with_token (tag_under w m) kind ls)
 
 -- the levels under a margin: a line begins at the start, and after a standalone tag
 abbrev pub levels_under : List ℕ → (leads : Bool) → List Marked → Levels
@@ -53,5 +55,6 @@ levels_under w leads (m ∷ ms) = with_marked w leads (goes_on ms) m m.token.kin
 
 -- If a text has a tree, the tree of the indented text is that of the text's own tokens under the margin.
 abbrev pub MarginMakesTree : Type 0
-MarginMakesTree = (w t : List ℕ) (ts : List TokenSeen) (tree : Tree) → AreBlank w → scanned t ≡ Ok ts → tree_of t ≡ Ok tree
+MarginMakesTree =
+    (w t : List ℕ) (ts : List TokenSeen) (tree : Tree) → AreBlank w → scanned t ≡ Ok ts → tree_of t ≡ Ok tree
     → tree_of (indented w t) ≡ Ok (first_level (levels_under w true (marked t ts)))

@@ -4,7 +4,8 @@ use Rattle.mustache_scan.specs.Standalone.{TokenSeen}
 use Rattle.mustache_scan.specs.View.{token_view, tokens_view}
 use Rattle.mustache_scan.specs.declared.token.Token.{Token}
 use Rattle.mustache_parse.specs.Margin.{Marked, tag_under, with_marked, levels_under}
-use Rattle.mustache_parse.specs.Tree.{Tree, section, inverted, Open, nest, open_after, Levels, last, onto, closing, with_token}
+use Rattle.mustache_parse.specs.Tree.{Tree, section, inverted, Open, nest, open_after, Levels, last, onto}
+use Rattle.mustache_parse.specs.Tree.{closing, with_token}
 use Rattle.mustache_parse.specs.View.{node_onto, tree_view}
 use Rattle.mustache_parse.specs.declared.nesting.Nesting.{Nesting}
 use Rattle.mustache_parse.specs.declared.nesting.OpenSection.{OpenSection}
@@ -24,7 +25,9 @@ made_by false name = section name
 -- left
 abbrev pub levels_over : List ℕ → List OpenSection → List Node → Levels → Levels
 levels_over w [] nodes ls = onto (before w nodes) ls
-levels_over w (s ∷ above) nodes ls = levels_over w above s.before.items (closing (made_by s.is_inverted (string_bytes s.name)) (onto (before w nodes) ls))
+levels_over w (s ∷ above) nodes ls =
+    levels_over w above s.before.items
+    (closing (made_by s.is_inverted (string_bytes s.name)) (onto (before w nodes) ls))
 
 abbrev pub open_view : OpenSection → Open
 open_view s = record { name = string_bytes s.name; place = s.place }
@@ -53,7 +56,8 @@ tag_makes t w ls = with_token (tag_under w (marked_view t)) t.kind ls
 abbrev pub token_makes : Token → (leads trails : Bool) → List ℕ → Levels → Levels
 token_makes t leads trails w ls = with_marked w leads trails (marked_view t) t.kind ls
 
--- The nodes of some tokens: no section is left open, and under each margin the nodes are what the tokens' levels are.
+-- The nodes of some tokens: no section is left open, and under each margin the nodes are what the tokens'
+-- levels are.
 pub record AreNodesOf (tokens : List Token) (ns : List Node) : Type 0 where
   pub nests : open_after [] (tokens_view tokens) ≡ Ok []
   pub levels_are : (w : List ℕ) → levels_under w true (map marked_view tokens) ≡ last (tree_view w ns)

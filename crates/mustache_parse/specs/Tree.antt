@@ -1,11 +1,14 @@
 -- The tree of a text: how its tags nest.
-use Rattle.std.specs.Prelude.{ℕ, true, false, nat_lt, List, [], ◌∷◌, Option, None, Some, Result, Ok, Err, length}
+use Rattle.std.specs.Prelude.{ℕ, true, false, nat_lt, List, [], ◌∷◌, Option, None, Some, Result, Ok, Err}
+use Rattle.std.specs.Prelude.{length}
 use Rattle.std.specs.Str.{bytes_eq}
 use Rattle.mustache_scan.specs.Standalone.{TokenSeen, scanned}
 use Rattle.mustache_scan.specs.declared.token.TokenKind.{TokenKind}
-use Rattle.mustache_scan.specs.declared.token.TokenKind.TheVariants.{Literal, Variable, Raw, Section, Inverted, End, Partial}
+use Rattle.mustache_scan.specs.declared.token.TokenKind.TheVariants.{Literal, Variable, Raw, Section}
+use Rattle.mustache_scan.specs.declared.token.TokenKind.TheVariants.{Inverted, End, Partial}
 use Rattle.mustache_scan.specs.declared.fault.FaultKind.{FaultKind}
-use Rattle.mustache_scan.specs.declared.fault.FaultKind.TheVariants.{NoSection, WrongEnd, UnclosedSection, TooDeep}
+use Rattle.mustache_scan.specs.declared.fault.FaultKind.TheVariants.{NoSection, WrongEnd, UnclosedSection}
+use Rattle.mustache_scan.specs.declared.fault.FaultKind.TheVariants.{TooDeep}
 use Rattle.mustache_scan.specs.declared.fault.TemplateFault.{TemplateFault}
 
 -- A tree is a list of nodes. `text`, `variable`, `raw` and `partial` have what their node says, and the rest
@@ -52,7 +55,8 @@ nest _ name place above = Ok above
 -- the open sections after some tokens, the innermost first, or the first fault of nesting
 abbrev pub open_after : List Open → List TokenSeen → Result (List Open) TemplateFault
 open_after above [] = Ok above
-open_after above (t ∷ ts) = elim (nest t.kind t.inside t.place above) [ Ok o ↦ open_after o ts | Err f ↦ Err f ]
+open_after above (t ∷ ts) =
+    elim (nest t.kind t.inside t.place above) [ Ok o ↦ open_after o ts | Err f ↦ Err f ]
 
 -- the outermost of the sections left open
 abbrev pub left_open : List Open → Option TemplateFault
@@ -101,7 +105,8 @@ unless (Some f) x = Err f
 
 -- the tree of some tokens, or the fault of their nesting
 abbrev pub nested : List TokenSeen → Result Tree TemplateFault
-nested ts = elim (open_after [] ts) [ Err f ↦ Err f | Ok above ↦ unless (left_open above) (first_level (levels ts)) ]
+nested ts =
+    elim (open_after [] ts) [ Err f ↦ Err f | Ok above ↦ unless (left_open above) (first_level (levels ts)) ]
 
 abbrev pub tree_of_scanned : Result (List TokenSeen) TemplateFault → Result Tree TemplateFault
 tree_of_scanned (Ok ts) = nested ts

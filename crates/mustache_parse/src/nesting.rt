@@ -1,11 +1,13 @@
-ghost use Rattle.std.specs.Prelude.{◌≡◌, ◌≢◌, ◌++◌, ℕ, List, [], ◌∷◌, map, true, false, not, ◌&&◌, IfOk, IfErr, OnOk, MatchResult, IsTrue, Err, Some, string_bytes};
+ghost use Rattle.std.specs.Prelude.{◌≡◌, ◌≢◌, ◌++◌, ℕ, List, [], ◌∷◌, map, true, false, not, ◌&&◌, IfOk};
+ghost use Rattle.std.specs.Prelude.{IfErr, OnOk, MatchResult, IsTrue, Err, Some, string_bytes};
 ghost use Rattle.mustache_scan.specs.Faults.{memory_wanted};
 ghost use Rattle.mustache_scan.specs.Standalone.{is_literal};
 ghost use Rattle.mustache_scan.specs.View.{token_view, tokens_view};
 ghost use Rattle.mustache_scan.specs.declared.fault.FaultKind.TheVariants.{OutOfMemory};
 ghost use Rattle.mustache_parse.specs.Nesting.{is_opening};
 ghost use Rattle.mustache_parse.specs.Margin.{literal_under, text_onto, indent_under, goes_on};
-ghost use Rattle.mustache_parse.specs.Stack.{made_by, opens_view, levels_with, marked_view, tag_makes, token_makes, Reads, AreNodesOf};
+ghost use Rattle.mustache_parse.specs.Stack.{made_by, opens_view, levels_with, marked_view, tag_makes};
+ghost use Rattle.mustache_parse.specs.Stack.{token_makes, Reads, AreNodesOf};
 ghost use Rattle.mustache_parse.specs.Tree.{nest, opening, ending, left_open, Levels, onto, nested};
 ghost use Rattle.mustache_parse.specs.View.{node_onto, tree_view, own_under};
 
@@ -37,7 +39,8 @@ struct Nesting {
 
 /// The node of a section with its block.
 fn ended(name: String, is_inverted: bool, block: Vec<Node>) -> Node
-    ensures { (w : List ℕ) → node_onto w result ≡ made_by is_inverted (string_bytes name) (tree_view w block.items) }
+    ensures { (w : List ℕ) → node_onto w result
+        ≡ made_by is_inverted (string_bytes name) (tree_view w block.items) }
 {
     if is_inverted {
         Node::Inverted { name, block }
@@ -48,7 +51,8 @@ fn ended(name: String, is_inverted: bool, block: Vec<Node>) -> Node
 
 /// The blanks before a standalone partial.
 fn own_of(alloc: Global, token: &Token) -> Result<Option<String>, TemplateFault>
-    ensures ok { IfOk result (λ own. (w : List ℕ) → own_under w own ≡ indent_under w token.now.is_alone token.now.indent.now) }
+    ensures ok { IfOk result (λ own. (w : List ℕ)
+        → own_under w own ≡ indent_under w token.now.is_alone token.now.indent.now) }
     ensures fault { IfErr result (λ f. f ≡ memory_wanted) }
 {
     if token.is_alone {
@@ -90,7 +94,8 @@ impl Nesting {
     fn open(&mut self, alloc: Global, token: &Token) -> Result<(), TemplateFault>
         requires { IsTrue (is_opening token.now.kind) }
         ensures ok { OnOk result (Reads (token_view token.now) (tag_makes token.now) self.old self.new) }
-        ensures fault { IfErr result (λ f. f.kind ≢ OutOfMemory → opening token.now.inside.now token.now.place (opens_view self.old) ≡ Err f) }
+        ensures fault { IfErr result (λ f. f.kind ≢ OutOfMemory
+            → opening token.now.inside.now token.now.place (opens_view self.old) ≡ Err f) }
         ensures memory { IfErr result (λ f. f.kind ≡ OutOfMemory → f.place ≡ 0) }
     {
         if self.opened.len() >= MAX_OPEN {
@@ -115,7 +120,8 @@ impl Nesting {
     fn end(&mut self, token: &Token) -> Result<(), TemplateFault>
         requires { token.now.kind ≡ TokenKind.End }
         ensures ok { OnOk result (Reads (token_view token.now) (tag_makes token.now) self.old self.new) }
-        ensures fault { IfErr result (λ f. f.kind ≢ OutOfMemory → ending token.now.inside.now token.now.place (opens_view self.old) ≡ Err f) }
+        ensures fault { IfErr result (λ f. f.kind ≢ OutOfMemory
+            → ending token.now.inside.now token.now.place (opens_view self.old) ≡ Err f) }
         ensures memory { IfErr result (λ f. f.kind ≡ OutOfMemory → f.place ≡ 0) }
     {
         let Some(section) = self.opened.pop() else {
@@ -144,7 +150,8 @@ impl Nesting {
     fn read_tag(&mut self, alloc: Global, token: &Token) -> Result<(), TemplateFault>
         requires { is_literal token.now.kind ≡ false }
         ensures ok { OnOk result (Reads (token_view token.now) (tag_makes token.now) self.old self.new) }
-        ensures fault { IfErr result (λ f. f.kind ≢ OutOfMemory → nest token.now.kind token.now.inside.now token.now.place (opens_view self.old) ≡ Err f) }
+        ensures fault { IfErr result (λ f. f.kind ≢ OutOfMemory
+            → nest token.now.kind token.now.inside.now token.now.place (opens_view self.old) ≡ Err f) }
         ensures memory { IfErr result (λ f. f.kind ≡ OutOfMemory → f.place ≡ 0) }
     {
         match token.kind {
@@ -164,7 +171,9 @@ impl Nesting {
     /// Puts the beginning of a line before a tag, unless the tag takes its lines away.
     fn begin_line(&mut self, alloc: Global, leads: bool) -> Result<(), TemplateFault>
         ensures opened { OnOk result (self.new.opened.items ≡ self.old.opened.items) }
-        ensures levels { OnOk result ((w : List ℕ) (ls : Levels) → levels_with w self.old (onto (text_onto (literal_under w leads true [])) ls) ≡ levels_with w self.new ls) }
+        ensures levels { OnOk result ((w : List ℕ) (ls : Levels)
+            → levels_with w self.old (onto (text_onto (literal_under w leads true [])) ls)
+            ≡ levels_with w self.new ls) }
         ensures fault { IfErr result (λ f. f ≡ memory_wanted) }
     {
         if leads {
@@ -187,8 +196,10 @@ impl Nesting {
         leads: bool,
         trails: bool,
     ) -> Result<(), TemplateFault>
-        ensures ok { OnOk result (Reads (token_view token.now) (token_makes token.now leads trails) self.old self.new) }
-        ensures fault { IfErr result (λ f. f.kind ≢ OutOfMemory → nest token.now.kind token.now.inside.now token.now.place (opens_view self.old) ≡ Err f) }
+        ensures ok { OnOk result (Reads (token_view token.now)
+            (token_makes token.now leads trails) self.old self.new) }
+        ensures fault { IfErr result (λ f. f.kind ≢ OutOfMemory
+            → nest token.now.kind token.now.inside.now token.now.place (opens_view self.old) ≡ Err f) }
         ensures memory { IfErr result (λ f. f.kind ≡ OutOfMemory → f.place ≡ 0) }
     {
         match token.kind {
@@ -209,7 +220,8 @@ impl Nesting {
 
     /// The nodes, if no section is left open.
     fn finish(self) -> Result<Vec<Node>, TemplateFault>
-        ensures ends { MatchResult result (λ ns. (self.opened.items ≡ []) × (ns.items ≡ self.nodes.items)) (λ f. left_open (opens_view self) ≡ Some f) }
+        ensures ends { MatchResult result (λ ns. (self.opened.items ≡ []) × (ns.items ≡ self.nodes.items))
+            (λ f. left_open (opens_view self) ≡ Some f) }
         ensures told { IfErr result (λ f. f.kind ≢ OutOfMemory) }
     {
         let Nesting { opened, nodes } = self;

@@ -2,7 +2,9 @@
 use Rattle.std.specs.Prelude.{ℕ, List, codes}
 use Rattle.mustache_scan.specs.declared.fault.FaultKind.{FaultKind}
 use Rattle.mustache_scan.specs.declared.fault.TemplateFault.{TemplateFault}
-use Rattle.mustache_scan.specs.declared.fault.FaultKind.TheVariants.{UnclosedTag, EmptyName, BadName, BadDelimiters, NoSection, WrongEnd, UnclosedSection, TooDeep, OutOfMemory}
+use Rattle.mustache_scan.specs.declared.fault.FaultKind.TheVariants.{UnclosedTag, EmptyName, BadName}
+use Rattle.mustache_scan.specs.declared.fault.FaultKind.TheVariants.{BadDelimiters, NoSection, WrongEnd}
+use Rattle.mustache_scan.specs.declared.fault.FaultKind.TheVariants.{UnclosedSection, TooDeep, OutOfMemory}
 
 -- a fault's number and name. A failed allocation has no number
 abbrev pub label : FaultKind → List ℕ

@@ -18,7 +18,8 @@ abbrev pub CutIsFirst : Type 0
 CutIsFirst = (part t a b : List ℕ) → 0 < length part → (cut part t ≡ Some (a, b)) ↔ IsFirstCut part t a b
 
 abbrev pub NoCutIsNowhere : Type 0
-NoCutIsNowhere = (part t : List ℕ) → 0 < length part → (cut part t ≡ None) ↔ ((c e : List ℕ) → t ≡ c ++ (part ++ e) → ⊥)
+NoCutIsNowhere =
+    (part t : List ℕ) → 0 < length part → (cut part t ≡ None) ↔ ((c e : List ℕ) → t ≡ c ++ (part ++ e) → ⊥)
 
 -- a reading is one tag and the reading of the rest, and any bound of at least the text's length gives it
 abbrev pub ReadingIsOneTag : Type 0

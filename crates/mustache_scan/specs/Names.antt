@@ -1,5 +1,6 @@
 -- Names, and the delimiters that a delimiter tag names.
-use Rattle.std.specs.Prelude.{ℕ, Bool, ◌||◌, ◌&&◌, ◌==◌, not, if◌then◌else◌, List, [], ◌∷◌, Option, None, Some, length, drop}
+use Rattle.std.specs.Prelude.{ℕ, Bool, ◌||◌, ◌&&◌, ◌==◌, not, if◌then◌else◌, List, [], ◌∷◌, Option, None}
+use Rattle.std.specs.Prelude.{Some, length, drop}
 use Rattle.std.specs.List.{list_any, slice_split, before_first}
 use Rattle.std.specs.Str.{bytes_eq}
 use Rattle.mustache_scan.specs.Cutting.{is_padding, unpadded}
@@ -40,4 +41,5 @@ abbrev pub delimiters_in : List ℕ → Option Pair
 delimiters_in inside =
     let first = before_first is_padding inside in
     let second = unpadded (drop (length first) inside) in
-    if is_sequence first && is_sequence second then Some (record { opening = first; closing = second }) else None
+    if is_sequence first
+    && is_sequence second then Some (record { opening = first; closing = second }) else None

@@ -1,5 +1,6 @@
--- A bridge from the code to the reading, and no definition: the next tag that it finds, what that takes of the text, and what is left of the literal
--- before it. `StandaloneLemmas`, `TakenLemmas` and `StepLemmas` tie it to `Standalone`.
+-- A bridge from the code to the reading, and no definition: the next tag that it finds, what that takes of
+-- the text, and what is left of the literal before it. `StandaloneLemmas`, `TakenLemmas` and `StepLemmas` tie
+-- it to `Standalone`.
 use Rattle.std.specs.Prelude.{ℕ, true, false, List, [], ◌∷◌, Option, None, Some, Result, Ok, Err, slice_range}
 use Rattle.mustache_scan.specs.Cutting.{stripped}
 use Rattle.mustache_scan.specs.Reading.{Opened, wrong_inside, name_of}
@@ -16,11 +17,14 @@ or_wrong o (Some wrong) = Err wrong
 -- a tag without the padding round its inside, or what is wrong with it
 abbrev pub checked : Option Opened → Result Opened FaultKind
 checked None = Err UnclosedTag
-checked (Some o) = or_wrong (record { kind = o.kind; inside = stripped o.inside; rest = o.rest }) (wrong_inside o.kind (stripped o.inside))
+checked (Some o) =
+    or_wrong (record { kind = o.kind; inside = stripped o.inside; rest = o.rest })
+    (wrong_inside o.kind (stripped o.inside))
 
 -- the lines of a tag of this kind, if it is standalone
 abbrev pub standalone_of : List ℕ → TokenKind → ℕ → ℕ → Option (ℕ × ℕ)
-standalone_of t kind first past = elim (may_be_standalone kind) [ true ↦ standalone_lines t first past | false ↦ None ]
+standalone_of t kind first past =
+    elim (may_be_standalone kind) [ true ↦ standalone_lines t first past | false ↦ None ]
 
 abbrev pub lines_or : ℕ → ℕ → Option (ℕ × ℕ) → ℕ × ℕ
 lines_or first past None = (first, past)
@@ -34,7 +38,8 @@ taken t kind first past = lines_or first past (standalone_of t kind first past)
 -- no literal is empty
 abbrev pub literal_at : ℕ → List ℕ → List TokenSeen
 literal_at place [] = []
-literal_at place (b ∷ bs) = record { kind = Literal; inside = []; place = place; text = b ∷ bs; indent = [] } ∷ []
+literal_at place (b ∷ bs) =
+    record { kind = Literal; inside = []; place = place; text = b ∷ bs; indent = [] } ∷ []
 
 -- only a partial has an indentation
 abbrev pub indent_in : List ℕ → TokenKind → ℕ → ℕ → List ℕ

@@ -1,11 +1,15 @@
 -- How a text is read into pieces, by cuts at the first places of the delimiters.
-use Rattle.std.specs.Prelude.{ℕ, zero, suc, ◌-◌, Bool, true, false, not, ◌&&◌, ◌||◌, ◌==◌, if◌then◌else◌, List, [], ◌∷◌, ◌++◌, Option, None, Some, length, take, flat_map, is_some}
+use Rattle.std.specs.Prelude.{ℕ, zero, suc, ◌-◌, Bool, true, false, not, ◌&&◌, ◌||◌, ◌==◌, if◌then◌else◌}
+use Rattle.std.specs.Prelude.{List, [], ◌∷◌, ◌++◌, Option, None, Some, length, take, flat_map, is_some}
 use Rattle.mustache_scan.specs.Cutting.{unpadded, stripped, cut}
 use Rattle.mustache_scan.specs.Names.{Pair, is_empty, has_padding, is_dotted, delimiters_in}
 use Rattle.mustache_scan.specs.declared.token.TokenKind.{TokenKind}
-use Rattle.mustache_scan.specs.declared.token.TokenKind.TheVariants.{Literal, Variable, Raw, Section, Inverted, End, Comment, Partial, Delimiters}
+use Rattle.mustache_scan.specs.declared.token.TokenKind.TheVariants.{Literal, Variable, Raw, Section}
+use Rattle.mustache_scan.specs.declared.token.TokenKind.TheVariants.{Inverted, End, Comment, Partial}
+use Rattle.mustache_scan.specs.declared.token.TokenKind.TheVariants.{Delimiters}
 use Rattle.mustache_scan.specs.declared.fault.FaultKind.{FaultKind}
-use Rattle.mustache_scan.specs.declared.fault.FaultKind.TheVariants.{UnclosedTag, EmptyName, BadName, BadDelimiters}
+use Rattle.mustache_scan.specs.declared.fault.FaultKind.TheVariants.{UnclosedTag, EmptyName, BadName}
+use Rattle.mustache_scan.specs.declared.fault.FaultKind.TheVariants.{BadDelimiters}
 
 -- A fault's place is the length of the text before it, so the rest of a text reads alike after any beginning.
 
@@ -97,7 +101,13 @@ name_of _ inside = inside
 
 -- a tag's bytes: its opening delimiter, and what is between that and the rest
 abbrev pub tag : List ℕ → List ℕ → Opened → List Piece
-tag opening after o = record { kind = o.kind; inside = name_of o.kind (stripped o.inside); bytes = opening ++ take (length after - length o.rest) after } ∷ []
+tag opening after o =
+    record {
+      kind = o.kind;
+      inside = name_of o.kind (stripped o.inside);
+      bytes = opening
+          ++ take (length after - length o.rest) after;
+    } ∷ []
 
 abbrev pub ends_here : Option FaultKind → Pieces
 ends_here w = record { pieces = []; wrong = w }
@@ -108,7 +118,8 @@ ends_here w = record { pieces = []; wrong = w }
 module _ (more : Pair → List ℕ → Pieces) (d : Pair) where
   abbrev pub after_tag : List ℕ → Opened → Option FaultKind → Pieces
   after_tag after o (Some w) = ends_here (Some w)
-  after_tag after o None = with_pieces (tag d.opening after o) (more (delimiters_after d o.kind (stripped o.inside)) o.rest)
+  after_tag after o None = with_pieces (tag d.opening after o)
+      (more (delimiters_after d o.kind (stripped o.inside)) o.rest)
 
   abbrev pub after_opening : List ℕ → Option Opened → Pieces
   after_opening after None = ends_here (Some UnclosedTag)
@@ -116,7 +127,8 @@ module _ (more : Pair → List ℕ → Pieces) (d : Pair) where
 
   abbrev pub after_cut : List ℕ → Option (List ℕ × List ℕ) → Pieces
   after_cut t None = with_pieces (literal t) (ends_here None)
-  after_cut t (Some (before, after)) = with_pieces (literal before) (after_opening after (tag_after d.closing after))
+  after_cut t (Some (before, after)) = with_pieces (literal before)
+      (after_opening after (tag_after d.closing after))
 
   abbrev pub one_tag : List ℕ → Pieces
   one_tag t = after_cut t (cut d.opening t)

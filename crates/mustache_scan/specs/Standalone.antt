@@ -1,5 +1,6 @@
 -- Standalone tags, and what they leave of the literals around them.
-use Rattle.std.specs.Prelude.{ℕ, ◌+◌, ◌-◌, Bool, true, false, ◌&&◌, ◌==◌, nat_lt, nat_le, List, [], ◌∷◌, map, Option, None, Some, Result, Ok, Err, length, take, drop, is_some}
+use Rattle.std.specs.Prelude.{ℕ, ◌+◌, ◌-◌, Bool, true, false, ◌&&◌, ◌==◌, nat_lt, nat_le, List, [], ◌∷◌, map}
+use Rattle.std.specs.Prelude.{Option, None, Some, Result, Ok, Err, length, take, drop, is_some}
 use Rattle.std.specs.List.{list_any, list_all, after_last, take_while, filter_map, flat_map}
 use Rattle.mustache_scan.specs.Cutting.{is_blank, is_newline}
 use Rattle.mustache_scan.specs.Names.{braces}
@@ -14,7 +15,8 @@ use Rattle.mustache_scan.specs.declared.fault.TemplateFault.{TemplateFault}
 abbrev pub line_end : List ℕ → Option ℕ
 line_end [] = Some 0
 line_end (b ∷ []) = elim (b == 10) [ true ↦ Some 1 | false ↦ None ]
-line_end (b ∷ c ∷ bs) = elim (b == 10) [ true ↦ Some 1 | false ↦ elim (b == 13 && c == 10) [ true ↦ Some 2 | false ↦ None ] ]
+line_end (b ∷ c ∷ bs) =
+    elim (b == 10) [ true ↦ Some 1 | false ↦ elim (b == 13 && c == 10) [ true ↦ Some 2 | false ↦ None ] ]
 
 -- what is on the last line of a text
 abbrev pub last_line : List ℕ → List ℕ
@@ -31,7 +33,11 @@ abbrev pub standalone_lines : List ℕ → ℕ → ℕ → Option (ℕ × ℕ)
 standalone_lines t first past =
     let before = last_line (take first t) in
     let blanks = take_while is_blank (drop past t) in
-    elim (list_all is_blank before) [ true ↦ lines_from (first - length before) (past + length blanks) (line_end (drop (past + length blanks) t)) | false ↦ None ]
+    elim (list_all is_blank before) [
+      | true ↦ lines_from (first - length before) (past + length blanks)
+          (line_end (drop (past + length blanks) t))
+      | false ↦ None
+    ]
 
 -- variables are never standalone
 abbrev pub may_be_standalone : TokenKind → Bool
@@ -47,7 +53,12 @@ placed at (p ∷ ps) = (at, p) ∷ placed (at + length p.bytes) ps
 
 -- the lines of a piece, if it is a standalone tag
 abbrev pub standalone : List ℕ → ℕ × Piece → Option (ℕ × ℕ)
-standalone t p = elim (may_be_standalone p.1.kind) [ true ↦ standalone_lines t p.0 (p.0 + length p.1.bytes) | false ↦ None ]
+standalone t p =
+    elim (may_be_standalone p.1.kind) [
+      | true ↦ standalone_lines t p.0
+          (p.0 + length p.1.bytes)
+      | false ↦ None
+    ]
 
 -- all such lines of a text
 abbrev pub standalone_lines_of : List ℕ → List (ℕ × Piece) → List (ℕ × ℕ)
@@ -71,12 +82,14 @@ is_alone t x = is_some (standalone t (x.place, record { kind = x.kind; inside = 
 -- the bytes that no line of a standalone tag covers, with their places
 abbrev pub kept : List (ℕ × ℕ) → ℕ → List ℕ → List (ℕ × ℕ)
 kept lines at [] = []
-kept lines at (b ∷ bs) = elim (is_covered lines at) [ true ↦ kept lines (at + 1) bs | false ↦ (at, b) ∷ kept lines (at + 1) bs ]
+kept lines at (b ∷ bs) =
+    elim (is_covered lines at) [ true ↦ kept lines (at + 1) bs | false ↦ (at, b) ∷ kept lines (at + 1) bs ]
 
 -- no literal is empty
 abbrev pub literal_of : List (ℕ × ℕ) → List TokenSeen
 literal_of [] = []
-literal_of ((at, b) ∷ bs) = record { kind = Literal; inside = []; place = at; text = b ∷ map (λ x. x.1) bs; indent = [] } ∷ []
+literal_of ((at, b) ∷ bs) =
+    record { kind = Literal; inside = []; place = at; text = b ∷ map (λ x. x.1) bs; indent = [] } ∷ []
 
 -- the blanks before a standalone tag
 abbrev pub blanks_before : ℕ → List ℕ → Option (ℕ × ℕ) → List ℕ
@@ -96,7 +109,8 @@ abbrev pub tag_token : List ℕ → ℕ × Piece → TokenSeen
 tag_token t p = record { kind = p.1.kind; inside = p.1.inside; place = p.0; text = p.1.bytes; indent = indent_of t p p.1.kind }
 
 abbrev pub tokens_at : List ℕ → List (ℕ × ℕ) → ℕ × Piece → List TokenSeen
-tokens_at t lines p = elim (is_literal p.1.kind) [ true ↦ literal_of (kept lines p.0 p.1.bytes) | false ↦ tag_token t p ∷ [] ]
+tokens_at t lines p =
+    elim (is_literal p.1.kind) [ true ↦ literal_of (kept lines p.0 p.1.bytes) | false ↦ tag_token t p ∷ [] ]
 
 -- the tokens of a text's pieces: its tags, and of its literals what no line of a standalone tag covers
 abbrev pub tokens_of : List ℕ → List (ℕ × Piece) → List TokenSeen

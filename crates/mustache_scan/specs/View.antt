@@ -8,7 +8,8 @@ use Rattle.mustache_scan.specs.declared.tag.Tag.{Tag}
 use Rattle.mustache_scan.specs.declared.token.Token.{Token}
 
 abbrev pub token_view : Token → TokenSeen
-token_view t = record { kind = t.kind; inside = t.inside.now; place = t.place; text = t.text.now; indent = t.indent.now }
+token_view t =
+    record { kind = t.kind; inside = t.inside.now; place = t.place; text = t.text.now; indent = t.indent.now }
 
 abbrev pub tokens_view : List Token → List TokenSeen
 tokens_view = map token_view

@@ -99,7 +99,8 @@ fn len_before_padding(bytes: &[u8]) -> usize
 
 /// The delimiters that the inside of a delimiter tag names.
 pub(crate) fn delimiters_in(inside: &str) -> Option<(&str, &str)>
-    ensures { option_map (λ d. record { opening = d.0.now; closing = d.1.now }) result ≡ delimiters_in inside.now }
+    ensures { option_map (λ d. record { opening = d.0.now; closing = d.1.now }) result
+        ≡ delimiters_in inside.now }
 {
     let len = len_before_padding(inside.as_bytes());
     let opening = &inside[..len];

@@ -6,7 +6,8 @@ pub fn cuts_are_first()
     ensures nowhere { NoCutIsNowhere }
 {}
 
-/// A text is read as one tag and the reading of the rest, and the bound on the number of tags changes nothing.
+/// A text is read as one tag and the reading of the rest, and the bound on the number of tags changes
+/// nothing.
 pub fn readings_go_on()
     ensures step { ReadingIsOneTag }
     ensures bound { BoundIsEnough }

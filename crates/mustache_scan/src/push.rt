@@ -1,4 +1,5 @@
-ghost use Rattle.std.specs.Prelude.{◌≡◌, ◌++◌, ◌-◌, ◌≤◌, OnOk, IfOk, IfErr, [], ◌∷◌, length, max, slice_range};
+ghost use Rattle.std.specs.Prelude.{◌≡◌, ◌++◌, ◌-◌, ◌≤◌, OnOk, IfOk, IfErr, [], ◌∷◌, length, max};
+ghost use Rattle.std.specs.Prelude.{slice_range};
 ghost use Rattle.std.specs.Str.{IsCharBoundary};
 ghost use Rattle.mustache_scan.specs.Faults.{memory_wanted};
 ghost use Rattle.mustache_scan.specs.Progress.{literal_at, tag_at, taken};
@@ -18,8 +19,10 @@ pub(crate) fn push_literal<'a>(
 ) -> Result<(), TemplateFault>
     requires from { IsCharBoundary source.now from }
     requires to { IsCharBoundary source.now to }
-    ensures ok { OnOk result (tokens_view tokens.new.items ≡ tokens_view tokens.old.items ++ literal_at from (slice_range source.now from to)) }
-    ensures marks { OnOk result (AreMarked source.now tokens.old.items → AreMarked source.now tokens.new.items) }
+    ensures ok { OnOk result (tokens_view tokens.new.items
+        ≡ tokens_view tokens.old.items ++ literal_at from (slice_range source.now from to)) }
+    ensures marks { OnOk result (AreMarked source.now tokens.old.items
+        → AreMarked source.now tokens.new.items) }
     ensures err { IfErr result (λ f. f ≡ memory_wanted) }
 {
     if from < to {
@@ -52,8 +55,12 @@ pub(crate) fn push_tag<'a>(
     ensures ok { let past = length source.now - length tag.entry.rest.now in
         let part = taken source.now tag.entry.kind place past in
         IfOk result (λ next. (next ≡ max from part.1)
-        × (tokens_view tokens.new.items ≡ tokens_view tokens.old.items ++ (literal_at from (slice_range source.now from part.0) ++ tag_at source.now tag.entry.kind tag.entry.inside.now place past ∷ []))) }
-    ensures marks { OnOk result (AreMarked source.now tokens.old.items → AreMarked source.now tokens.new.items) }
+        × (tokens_view tokens.new.items
+        ≡ tokens_view tokens.old.items
+        ++ (literal_at from (slice_range source.now from part.0)
+        ++ tag_at source.now tag.entry.kind tag.entry.inside.now place past ∷ []))) }
+    ensures marks { OnOk result (AreMarked source.now tokens.old.items
+        → AreMarked source.now tokens.new.items) }
     ensures err { IfErr result (λ f. f ≡ memory_wanted) }
 {
     let past = source.len() - tag.rest.len();

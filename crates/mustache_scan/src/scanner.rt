@@ -21,7 +21,8 @@ fn delimiters_after<'a>(
     delimiters: Delimiters<'a>,
     tag: Tag<'a>,
 ) -> Result<Delimiters<'a>, AllocError>
-    ensures { IfOk result (λ next. pair_view next ≡ delimiters_after (pair_view delimiters.entry) tag.entry.kind tag.entry.inside.now) }
+    ensures { IfOk result (λ next. pair_view next
+        ≡ delimiters_after (pair_view delimiters.entry) tag.entry.kind tag.entry.inside.now) }
 {
     match delimiters_in(tag.inside) {
         Some((opening, closing)) if tag.kind == TokenKind::Delimiters => {

@@ -5,7 +5,8 @@ ghost use Rattle.std.specs.Str.{IsUtf8};
 ghost use Rattle.mustache_scan.specs.Cutting.{cut};
 ghost use Rattle.mustache_scan.specs.Progress.{checked};
 ghost use Rattle.mustache_scan.specs.View.{tag_view};
-ghost use Rattle.mustache_scan.specs.Reading.{kind_of_sign, wrong_inside, name_of, opened_as, tag_in, tag_after};
+ghost use Rattle.mustache_scan.specs.Reading.{kind_of_sign, wrong_inside, name_of, opened_as, tag_in};
+ghost use Rattle.mustache_scan.specs.Reading.{tag_after};
 ghost use Rattle.mustache_scan.specs.declared.fault.FaultKind.TheVariants.{OutOfMemory};
 
 use crate::cuts::cut;
@@ -81,9 +82,11 @@ pub(crate) fn tag_after<'a>(
     delimiters: &Delimiters<'_>,
     after: &'a str,
 ) -> Result<Tag<'a>, FaultKind>
-    ensures ok { IfOk result (λ tag. checked (tag_after delimiters.now.closing.now after.now) ≡ Ok (tag_view tag)) }
+    ensures ok { IfOk result (λ tag. checked (tag_after delimiters.now.closing.now after.now)
+        ≡ Ok (tag_view tag)) }
     ensures rest { IfOk result (λ tag. IsUtf8 tag.rest.now) }
-    ensures err { IfErr result (λ wrong. checked (tag_after delimiters.now.closing.now after.now) ≡ Err wrong) }
+    ensures err { IfErr result (λ wrong. checked (tag_after delimiters.now.closing.now after.now)
+        ≡ Err wrong) }
     ensures told { IfErr result (λ wrong. wrong ≢ OutOfMemory) }
 {
     let Some(tag) = tag_in(delimiters, unpadded(after)) else {

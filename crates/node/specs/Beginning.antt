@@ -31,7 +31,8 @@ begun p s i b values again = record {
 -- the ballot that the node takes: above the last round on record, and above each round that a refusal
 -- reported
 abbrev pub next_of : {D : Type 0} → Running D → BallotOf
-next_of code = record { round = max code.store.recorded.round code.proposer.heard + 1; node = code.proposer.me }
+next_of code =
+    record { round = max code.store.recorded.round code.proposer.heard + 1; node = code.proposer.me }
 
 -- the call begins these attempts at each node that the code stands for, and there it may be refused if an
 -- allocation fails
@@ -41,7 +42,8 @@ pub record IsDue {D : Type 0} (code : Running D) (call : Call) (due : Beginning)
   pub span : IsSpan due.first (length due.values.items)
   pub in_range : IsCallInRange code.cluster call
   pub does : (s : Node) → IsNodeOf code s
-      → Does code.cluster code.me s call (begun code.me s due.first due.ballot due.values.items due.again.items)
+      → Does code.cluster code.me s call
+      (begun code.me s due.first due.ballot due.values.items due.again.items)
   pub wants : (s : Node) → IsNodeOf code s → Refuses s call OutOfMemory
 
 -- the call is refused with this fault, at each node that the code stands for

@@ -15,8 +15,8 @@ GrowsAt stands_for old new room there = (s : Node) (d : DiskState) → IsNodeOf 
     → (e : DiskState) × IsOnDisk stands_for new s e × LeavesOnly d e (IsEither old.me old.cluster s s)
     × (IsTrue there → e.seen ≡ with_zeros d.seen (length_for old.store.recorded.gate room))
 
--- The device failed as the file grew. The disk keeps what the node has on record and nothing else, and a crash
--- at any moment leaves that
+-- The device failed as the file grew. The disk keeps what the node has on record and nothing else, and a
+-- crash at any moment leaves that
 abbrev pub LosesNothing : {D : Type 0} → (D → DiskState → Type 0) → Running D → D → Type 0
 LosesNothing stands_for old disk = (s : Node) (d : DiskState) → IsNodeOf old s → IsOnDisk stands_for old s d
     → (e : DiskState) × stands_for disk e × LeavesOnly d e (IsEither old.me old.cluster s s)

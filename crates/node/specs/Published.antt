@@ -10,4 +10,5 @@ use Rattle.node.specs.Nodes.{Value}
 abbrev pub AreHeldWith : BTreeSet Ticket → BTreeSet Ticket → List Value → Type 0
 AreHeldWith old new published =
     (ticket : Ticket)
-    → (is_held ticket new.keys || is_some (receipt_of ticket published)) ≡ (is_held ticket old.keys || is_some (receipt_of ticket published))
+    → (is_held ticket new.keys || is_some (receipt_of ticket published))
+    ≡ (is_held ticket old.keys || is_some (receipt_of ticket published))

@@ -54,7 +54,8 @@ value_in m = []
 -- the first of the messages, as long as their values have at most `room` bytes in all
 abbrev pub fitting : ℕ → List Message → List Message
 fitting room [] = []
-fitting room (m ∷ ms) = if nat_le (length (value_in m)) room then m ∷ fitting (room - length (value_in m)) ms else []
+fitting room (m ∷ ms) =
+    if nat_le (length (value_in m)) room then m ∷ fitting (room - length (value_in m)) ms else []
 
 -- what the node reports of 64 instances from i on, with 65,536 bytes of values at most
 abbrev pub told_from : ℕ → Node → ℕ → List Message
@@ -69,7 +70,8 @@ value_size None None = 0
 abbrev pub told_size : Node → ℕ → ℕ
 told_size s i = value_size (remembered s i) (last_vote i s.entries)
 
--- how many of k instances from i on have room for their values in so many bytes, before the first that has not
+-- how many of k instances from i on have room for their values in so many bytes, before the first that has
+-- not
 abbrev pub covered : ℕ → Node → ℕ → ℕ → ℕ
 covered room s zero i = 0
 covered room s (suc k) i =
@@ -88,7 +90,8 @@ abbrev pub TellsOn : ℕ → Node → To → ℕ → ℕ → List (To × Message
 TellsOn p s to i room before after None = (later : List Message)
     → before ++ map (addressed to) (fitting room (with_first (telling p s i) later)) ≡ after
 TellsOn p s to i room before after (Some left) = (later : List Message)
-    → before ++ map (addressed to) (fitting room (with_first (telling p s i) later)) ≡ after ++ map (addressed to) (fitting left later)
+    → before ++ map (addressed to) (fitting room (with_first (telling p s i) later))
+    ≡ after ++ map (addressed to) (fitting left later)
 
 -- the node reports that, and nothing else happens
 abbrev pub tells : ℕ → Node → To → ℕ → Effect

@@ -25,7 +25,8 @@ impl<D: Disk> Node<D> {
         requires running { self.old.store.stopped ≡ false }
         ensures event { (before : List (To × Message))
             → IsMessage self.old.cluster (Message.Accepted from instance ballot value.now)
-            → IsEvent D.stands_for self.old self.new (deliver (Message.Accepted from instance ballot value.now)) (ending_of result) before before }
+            → IsEvent D.stands_for self.old self.new
+            (deliver (Message.Accepted from instance ballot value.now)) (ending_of result) before before }
         ensures no_put { (¬ IsErrOf result NodeFault.Device) × (self.new.store ≡ self.old.store) }
         ensures others { KeepsOthers self.old self.new }
     {

@@ -21,7 +21,8 @@ impl<D: Disk> Node<D> {
     ) -> Result<(), NodeFault>
         requires running { self.old.store.stopped ≡ false }
         ensures event { IsMessage self.old.cluster (Message.Ask from instance)
-            → IsEvent D.stands_for self.old self.new (deliver (Message.Ask from instance)) (ending_of result) outbox.old.items outbox.new.items }
+            → IsEvent D.stands_for self.old self.new (deliver (Message.Ask from instance))
+            (ending_of result) outbox.old.items outbox.new.items }
         ensures no_put { (¬ IsErrOf result NodeFault.Device) × (self.new.store ≡ self.old.store) }
         ensures grows { OnlyGrows outbox.old.items outbox.new.items }
         ensures others { KeepsOthers self.old self.new }

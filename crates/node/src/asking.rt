@@ -12,7 +12,8 @@ impl<D: Disk> Node<D> {
 
     /// Asks all nodes for the value of the first unknown instance.
     pub fn ask(&mut self, outbox: &mut Outbox) -> Result<(), NodeFault>
-        ensures event { IsEvent D.stands_for self.old self.new asking (ending_of result) outbox.old.items outbox.new.items }
+        ensures event { IsEvent D.stands_for self.old self.new asking
+            (ending_of result) outbox.old.items outbox.new.items }
         ensures no_put { (¬ IsErrOf result NodeFault.Device) × (self.new.store ≡ self.old.store) }
         ensures grows { OnlyGrows outbox.old.items outbox.new.items }
         ensures others { KeepsOthers self.old self.new }

@@ -35,7 +35,8 @@ impl<D: Disk> Node<D> {
         requires above { self.old.store.recorded.round < due.ballot.round }
         requires span { IsSpan due.first (length due.values.items) }
         ensures event { (call : Call) → IsDue self.old call due
-            → IsEvent D.stands_for self.old self.new call (ending_of result) outbox.old.items outbox.new.items }
+            → IsEvent D.stands_for self.old self.new call
+            (ending_of result) outbox.old.items outbox.new.items }
         ensures rises { OnOk result (TakesRound self.old self.new) }
         ensures counts { CountsDevice result (D.failed self.old.store.disk) (D.failed self.new.store.disk) }
         ensures grows { OnlyGrows outbox.old.items outbox.new.items }

@@ -17,7 +17,8 @@ impl<D: Disk> Node<D> {
     /// Handles a message, however old it is.
     pub fn deliver(&mut self, message: &Message, outbox: &mut Outbox) -> Result<(), NodeFault>
         requires { IsMessage self.old.cluster message.now }
-        ensures event { IsEvent D.stands_for self.old self.new (delivery message.now) (ending_of result) outbox.old.items outbox.new.items }
+        ensures event { IsEvent D.stands_for self.old self.new (delivery message.now)
+            (ending_of result) outbox.old.items outbox.new.items }
         ensures counts { CountsDevice result (D.failed self.old.store.disk) (D.failed self.new.store.disk) }
         ensures grows { OnlyGrows outbox.old.items outbox.new.items }
         ensures others { KeepsOthers self.old self.new }

@@ -36,11 +36,13 @@ impl<D: Disk> Node<D> {
         Ok(())
     }
 
-    /// A copy of the value that is to be kept at an instance, if there is one. A known value is never too long for an entry.
+    /// A copy of the value that is to be kept at an instance, if there is one. A known value is never too
+    /// long for an entry.
     fn unkept(&self, instance: Instance) -> Result<Option<Value>, AllocError>
         ensures unkept { IfOk result (λ value. (s : AbstractNode) → IsNodeOf self.now s
             → MatchOption value (¬ MayKeep s instance) (λ v. IsUnkept s instance v)) }
-        ensures new { IfOk result (λ value. IfSome value (λ v. value_at self.now.store.recorded.slots instance ≡ None)) }
+        ensures new { IfOk result (λ value. IfSome value
+            (λ v. value_at self.now.store.recorded.slots instance ≡ None)) }
         ensures fits { IfOk result (λ value. IfSome value (λ v. length v ≤ longest)) }
         ensures wanted { OnErr result ((s : AbstractNode) → IsNodeOf self.now s → MayKeep s instance) }
     {

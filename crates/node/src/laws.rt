@@ -4,7 +4,8 @@ ghost use Rattle.node.specs.Ranges.{OpensInRange, SaysFew, SaysMessages, StaysIn
 ghost use Rattle.node.specs.Stuck.{NeverStuck};
 ghost use Rattle.node.specs.Tidy.{CommandsShareTheirOwn, OpensTidy, SharingIsMutual, StaysTidy};
 
-/// A call loses nothing that is known, puts at most one entry on record, and neither arms the device nor disarms it.
+/// A call loses nothing that is known, puts at most one entry on record, and neither arms the device nor
+/// disarms it.
 pub fn calls_forget_nothing()
     ensures known { KnownStays }
     ensures begins { BeginningStays }

@@ -20,7 +20,8 @@ impl<D: Disk> Node<D> {
         requires running { self.old.store.stopped ≡ false }
         ensures event { (from instance : ℕ) (asked : BallotOf) (before : List (To × Message))
             → IsMessage self.old.cluster (Message.Nack from instance asked promised)
-            → IsEvent D.stands_for self.old self.new (deliver (Message.Nack from instance asked promised)) Whole before before }
+            → IsEvent D.stands_for self.old self.new
+            (deliver (Message.Nack from instance asked promised)) Whole before before }
         ensures no_put { self.new.store ≡ self.old.store }
         ensures others { KeepsOthers self.old self.new }
     {

@@ -75,7 +75,8 @@ impl<D: Disk> Node<D> {
         requires of_cluster { IsNode self.old.cluster ballot.node }
         requires span { IsSpan first count }
         ensures event { (from : ℕ) → IsMessage self.old.cluster (Message.Prepare from first ballot count)
-            → IsEvent D.stands_for self.old self.new (deliver (Message.Prepare from first ballot count)) (ending_of result) outbox.old.items outbox.new.items }
+            → IsEvent D.stands_for self.old self.new (deliver (Message.Prepare from first ballot count))
+            (ending_of result) outbox.old.items outbox.new.items }
         ensures counts { CountsDevice result (D.failed self.old.store.disk) (D.failed self.new.store.disk) }
         ensures grows { OnlyGrows outbox.old.items outbox.new.items }
         ensures others { KeepsOthers self.old self.new }
@@ -107,7 +108,8 @@ impl<D: Disk> Node<D> {
         ballot: Ballot,
     ) -> Result<Judgement, AllocError>
         requires { IsSpan first count }
-        ensures ok { IfOk result (λ told. IsJudgement (slot_at self.now.store.recorded.slots) self.now.me first ballot count told) }
+        ensures ok { IfOk result (λ told. IsJudgement
+            (slot_at self.now.store.recorded.slots) self.now.me first ballot count told) }
         ensures err { OnErr result ((at : ℕ) × IsInSpan first count at
             × IsOwed (slot_at self.now.store.recorded.slots at) ballot) }
     {
@@ -133,7 +135,8 @@ impl<D: Disk> Node<D> {
         ballot: Ballot,
         judgement: &mut Judgement,
     ) -> Result<(), AllocError>
-        ensures ok { OnOk result (JudgesMore (slot_at self.now.store.recorded.slots at) self.now.me at ballot judgement.old judgement.new) }
+        ensures ok { OnOk result (JudgesMore
+            (slot_at self.now.store.recorded.slots at) self.now.me at ballot judgement.old judgement.new) }
         ensures err { OnErr result (IsOwed (slot_at self.now.store.recorded.slots at) ballot) }
     {
         let slot = self.store.slot(at);

@@ -26,7 +26,11 @@ impl<D: Disk> Node<D> {
     ) -> Result<(), NodeFault>
         requires running { self.old.store.stopped ≡ false }
         requires of_cluster { IsNode self.old.cluster from }
-        ensures event { IsMessage self.old.cluster (Message.Promise from instance ballot (vote_told prior.entry)) → IsEvent D.stands_for self.old self.new (deliver (Message.Promise from instance ballot (vote_told prior.entry))) (ending_of result) outbox.old.items outbox.new.items }
+        ensures event { IsMessage self.old.cluster
+            (Message.Promise from instance ballot (vote_told prior.entry))
+            → IsEvent D.stands_for self.old self.new
+            (deliver (Message.Promise from instance ballot (vote_told prior.entry)))
+            (ending_of result) outbox.old.items outbox.new.items }
         ensures no_put { (¬ IsErrOf result NodeFault.Device) × (self.new.store ≡ self.old.store) }
         ensures grows { OnlyGrows outbox.old.items outbox.new.items }
         ensures others { KeepsOthers self.old self.new }

@@ -29,7 +29,9 @@ impl<D: Disk> Node<D> {
         requires fits { length value.now ≤ MAX_VALUE }
         ensures event { (from : ℕ)
             → IsMessage self.old.cluster (Message.Propose from instance ballot value.now)
-            → IsEvent D.stands_for self.old self.new (deliver (Message.Propose from instance ballot value.now)) (ending_of result) outbox.old.items outbox.new.items }
+            → IsEvent D.stands_for self.old self.new
+            (deliver (Message.Propose from instance ballot value.now))
+            (ending_of result) outbox.old.items outbox.new.items }
         ensures counts { CountsDevice result (D.failed self.old.store.disk) (D.failed self.new.store.disk) }
         ensures grows { OnlyGrows outbox.old.items outbox.new.items }
         ensures others { KeepsOthers self.old self.new }

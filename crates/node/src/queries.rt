@@ -84,7 +84,9 @@ impl<D: Disk> Node<D> {
 
     /// The same, said of what the code keeps.
     pub(crate) fn own_ballot(&self) -> Option<Ballot>
-        ensures { MatchOption result (max self.now.store.recorded.round self.now.proposer.heard ≡ MAX_ROUND) (λ b. (b ≡ next_of self.now) × (max self.now.store.recorded.round self.now.proposer.heard < MAX_ROUND)) }
+        ensures { MatchOption result (max self.now.store.recorded.round self.now.proposer.heard ≡ MAX_ROUND)
+            (λ b. (b ≡ next_of self.now)
+            × (max self.now.store.recorded.round self.now.proposer.heard < MAX_ROUND)) }
     {
         match self.proposer.next_ballot(self.store.round()) {
             Ok(ballot) => Some(ballot),

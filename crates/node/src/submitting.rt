@@ -29,7 +29,8 @@ impl<D: Disk> Node<D> {
 
     /// Queues a command to be proposed, unless its ticket is pending or known.
     pub fn submit(&mut self, value: &Value) -> Result<Submitted, NodeFault>
-        ensures event { IsEvent D.stands_for self.old self.new (submission value.now) (ending_of result) [] [] }
+        ensures event { IsEvent D.stands_for self.old self.new (submission value.now)
+            (ending_of result) [] [] }
         ensures answered { IfOk result (λ answer. (s : AbstractNode) → IsNodeOf self.old s
             → IsAnswered s value.now answer) }
         ensures cause { IfErr result IsSubmitCause }

@@ -1,7 +1,8 @@
 //! A tick: a fresh attempt at the first unknown instance, and the other attempts' messages once more. If the
 //! node is mute there, it asks instead.
 //!
-//! A tick asks for a round that is left, so effect and RoundsUsedUp exclude each other; resent prepares are of one instance.
+//! A tick asks for a round that is left, so effect and RoundsUsedUp exclude each other; resent prepares are
+//! of one instance.
 
 ghost use Rattle.std.specs.Prelude.{◌≡◌, IfOk, IfErr};
 ghost use Rattle.node.specs.Beginning.{IsDue, IsRefusedBy};
@@ -20,7 +21,8 @@ impl<D: Disk> Node<D> {
     /// order of their instances. A node that only learns asks for the first unknown instance instead, and
     /// uses no round.
     pub fn tick(&mut self, outbox: &mut Outbox) -> Result<(), NodeFault>
-        ensures event { IsEvent D.stands_for self.old self.new ticking (ending_of result) outbox.old.items outbox.new.items }
+        ensures event { IsEvent D.stands_for self.old self.new ticking
+            (ending_of result) outbox.old.items outbox.new.items }
         ensures counts { CountsDevice result (D.failed self.old.store.disk) (D.failed self.new.store.disk) }
         ensures grows { OnlyGrows outbox.old.items outbox.new.items }
         ensures others { KeepsOthers self.old self.new }

@@ -29,7 +29,8 @@ impl<D: Disk> Node<D> {
     /// own. One prepare for all of them goes out. If there is no such instance or no such value, it returns
     /// false, and nothing happens.
     pub fn widen(&mut self, outbox: &mut Outbox) -> Result<bool, NodeFault>
-        ensures event { IsEvent D.stands_for self.old self.new widening (ending_of result) outbox.old.items outbox.new.items }
+        ensures event { IsEvent D.stands_for self.old self.new widening
+            (ending_of result) outbox.old.items outbox.new.items }
         ensures widened { IfOk result (λ widened. (s : AbstractNode) → IsNodeOf self.old s → IsTrue widened
             ↔ MayWiden s) }
         ensures rises { IfOk result (λ widened. IsTrue widened → TakesRound self.old self.new) }
@@ -77,7 +78,8 @@ impl<D: Disk> Node<D> {
         }))
     }
 
-    /// The least free instance, from the first unknown one on. A node that is mute at the first unknown one has none.
+    /// The least free instance, from the first unknown one on. A node that is mute at the first unknown one
+    /// has none.
     fn next_free(&self, first: Instance) -> Option<Instance>
         ensures least { (s : AbstractNode) → IsNodeOf self.now s → IsFirstUnknown s.known first
             → MatchOption result ((i : ℕ) → ¬ IsNextFree s i) (λ i. IsNextFree s i) }

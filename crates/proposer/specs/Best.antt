@@ -11,7 +11,8 @@ use Rattle.proposer.specs.Attempts.{Answer, ToldNone}
 abbrev pub IsBest : List Answer → Option Vote → Type 0
 IsBest answers None = ToldNone answers
 IsBest answers (Some best) =
-    ((x : Answer) × In answers x × (x.prior ≡ Some best)) × ((y : Answer) (w : Vote) → In answers y → y.prior ≡ Some w → NotAbove w.ballot best.ballot)
+    ((x : Answer) × In answers x × (x.prior ≡ Some best))
+    × ((y : Answer) (w : Vote) → In answers y → y.prior ≡ Some w → NotAbove w.ballot best.ballot)
 
 -- a reported vote takes the place of the best one if it is higher, or if there is none yet
 abbrev pub Exceeds : Option Vote → Option Vote → Type 0

@@ -1,5 +1,6 @@
 -- Which attempts a proposer stands for. Of the answers it keeps who sent them, and the best vote reported.
-use Rattle.std.specs.Prelude.{◌≡◌, ◌⊎◌, ℕ, List, Option, Some, None, Result, Ok, Err, ⊤, IsSome, unwrap_or, if◌then◌else◌}
+use Rattle.std.specs.Prelude.{◌≡◌, ◌⊎◌, ℕ, List, Option, Some, None, Result, Ok, Err, ⊤, IsSome, unwrap_or}
+use Rattle.std.specs.Prelude.{if◌then◌else◌}
 use Rattle.std.specs.BTreeMap.{BTreeMap, get}
 use Rattle.std.specs.Ordering.{nat_cmp}
 use Rattle.std.specs.declared.alloc.AllocError.{AllocError}
@@ -12,7 +13,8 @@ use Rattle.proposer.specs.declared.fault.ProposerFault.{ProposerFault}
 use Rattle.proposer.specs.declared.fault.ProposerFault.TheVariants.{OutOfMemory, RoundsUsedUp}
 use Rattle.proposer.specs.declared.proposer.Proposal.{Proposal}
 use Rattle.proposer.specs.declared.proposer.Proposer.{Proposer}
-use Rattle.proposer.specs.Attempts.{Attempt, senders, Chooses, Counts, with_answer, waiting, proposing, TakesPromise}
+use Rattle.proposer.specs.Attempts.{Attempt, senders, Chooses, Counts, with_answer, waiting, proposing}
+use Rattle.proposer.specs.Attempts.{TakesPromise}
 use Rattle.proposer.specs.Best.{IsBest, value_by}
 
 -- what is kept of an attempt, in a cluster of n nodes
@@ -42,22 +44,30 @@ HasRoom proposer i = IsSome (get nat_cmp proposer.attempts i)
 
 -- the proposer's attempts, by instance
 abbrev pub Attempting : Proposer → (ℕ → Option Attempt) → Type 0
-Attempting proposer attempts = (i : ℕ) → StandsForAny proposer.cluster (attempt_at proposer.attempts i) (attempts i)
+Attempting proposer attempts =
+    (i : ℕ) → StandsForAny proposer.cluster (attempt_at proposer.attempts i) (attempts i)
 
 -- what an attempt answers to a promise: nothing if the promise does not count or leaves it waiting, the value
 -- that it proposes after it, or that an allocation failed, which changes nothing
-abbrev pub Answered : ℕ → Attempt → ℕ → BallotOf → Option Vote → Result (Option (List ℕ)) AllocError → OpenAttempt → Type 0
+abbrev pub Answered : ℕ → Attempt → ℕ → BallotOf → Option Vote → Result (Option (List ℕ)) AllocError
+    → OpenAttempt → Type 0
 Answered n a q b prior (Ok None) kept =
-    (¬ Counts a q b × StandsFor n kept a) ⊎ (Counts a q b × ¬ Majority n (senders (with_answer a q prior)) × StandsFor n kept (waiting a q prior))
+    (¬ Counts a q b × StandsFor n kept a)
+    ⊎ (Counts a q b × ¬ Majority n (senders (with_answer a q prior)) × StandsFor n kept (waiting a q prior))
 Answered n a q b prior (Ok (Some v)) kept =
-    Counts a q b × Majority n (senders (with_answer a q prior)) × Chooses a.own (with_answer a q prior) v × StandsFor n kept (proposing a q prior v)
+    Counts a q b × Majority n (senders (with_answer a q prior)) × Chooses a.own (with_answer a q prior) v
+    × StandsFor n kept (proposing a q prior v)
 Answered n a q b prior (Err e) kept = StandsFor n kept a
 
 -- the promise is handled as the step says, and what is proposed is handed out; or an allocation fails, and
 -- the attempts stay as they are
-abbrev pub Promised : ℕ → (ℕ → Option Attempt) → ℕ → ℕ → BallotOf → Option Vote → Result (Option Proposal) ProposerFault → Proposer → Type 0
-Promised n attempts q i b prior (Ok None) new = (after : ℕ → Option Attempt) × TakesPromise n attempts q i b prior after None × Attempting new after
+abbrev pub Promised : ℕ → (ℕ → Option Attempt) → ℕ → ℕ → BallotOf → Option Vote
+    → Result (Option Proposal) ProposerFault → Proposer → Type 0
+Promised n attempts q i b prior (Ok None) new =
+    (after : ℕ → Option Attempt) × TakesPromise n attempts q i b prior after None × Attempting new after
 Promised n attempts q i b prior (Ok (Some proposal)) new =
-    (proposal.instance ≡ i) × (proposal.ballot ≡ b) × ((after : ℕ → Option Attempt) × TakesPromise n attempts q i b prior after (Some proposal.value) × Attempting new after)
+    (proposal.instance ≡ i) × (proposal.ballot ≡ b)
+    × ((after : ℕ → Option Attempt) × TakesPromise n attempts q i b prior after (Some proposal.value)
+    × Attempting new after)
 Promised n attempts q i b prior (Err OutOfMemory) new = Attempting new attempts
 Promised n attempts q i b prior (Err RoundsUsedUp) new = ⊥

@@ -3,7 +3,8 @@
 //! After its proposal an attempt counts no answer. So "it counts" and "it has not proposed" are one
 //! condition.
 
-ghost use Rattle.std.specs.Prelude.{◌≡◌, ◌↔◌, ◌<◌, ◌++◌, [], ◌∷◌, IfOk, IsTrue, None, Some, vec_len, vec_capacity};
+ghost use Rattle.std.specs.Prelude.{◌≡◌, ◌↔◌, ◌<◌, ◌++◌, [], ◌∷◌, IfOk, IsTrue, None, Some, vec_len};
+ghost use Rattle.std.specs.Prelude.{vec_capacity};
 ghost use Rattle.site_ids.specs.Ids.{IsNode};
 ghost use Rattle.site_ids.specs.Lists.{In};
 ghost use Rattle.proposer.specs.Attempts.{Attempt};
@@ -36,7 +37,8 @@ impl OpenAttempt {
         prior: Option<&Vote>,
     ) -> Result<Option<Value>, AllocError>
         requires { IsNode cluster from }
-        ensures { (a : Attempt) → StandsFor cluster self.old a → Answered cluster a from ballot (vote_told prior.entry) result self.new }
+        ensures { (a : Attempt) → StandsFor cluster self.old a
+            → Answered cluster a from ballot (vote_told prior.entry) result self.new }
     {
         if ballot != self.ballot || self.proposed || self.has_promise_of(from) {
             return Ok(None);
@@ -55,8 +57,10 @@ impl OpenAttempt {
 
     /// A copy of the reported vote, if its ballot is higher than those of all reported before.
     fn better(&self, prior: Option<&Vote>) -> Result<Option<Vote>, AllocError>
-        ensures higher { IfOk result (λ better. Exceeds (vote_told prior.entry) self.now.best → better ≡ vote_told prior.entry) }
-        ensures lower { IfOk result (λ better. ¬ Exceeds (vote_told prior.entry) self.now.best → better ≡ None) }
+        ensures higher { IfOk result (λ better. Exceeds (vote_told prior.entry) self.now.best
+            → better ≡ vote_told prior.entry) }
+        ensures lower { IfOk result (λ better. ¬ Exceeds (vote_told prior.entry) self.now.best
+            → better ≡ None) }
     {
         match prior {
             Some(vote) if exceeds(vote, &self.best) => Ok(Some(vote.try_clone()?)),

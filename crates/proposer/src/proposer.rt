@@ -1,6 +1,7 @@
 //! `make_room` and `open` are two functions. A refused span hands the values back.
 
-ghost use Rattle.std.specs.Prelude.{◌≡◌, ◌↔◌, ◌+◌, ◌<◌, ℕ, max, None, Some, Option, OnOk, OnErr, IfOk, IfErr, IsTrue, MatchResult, length};
+ghost use Rattle.std.specs.Prelude.{◌≡◌, ◌↔◌, ◌+◌, ◌<◌, ℕ, max, None, Some, Option, OnOk, OnErr, IfOk, IfErr};
+ghost use Rattle.std.specs.Prelude.{IsTrue, MatchResult, length};
 ghost use Rattle.std.specs.Option.{option_map};
 ghost use Rattle.site_ids.specs.declared.TheConstants.{MAX_ROUND};
 ghost use Rattle.site_ids.specs.Ids.{IsNode};
@@ -74,7 +75,10 @@ impl Proposer {
 
     /// A ballot above the last round on record and above each round that a refusal reported.
     pub fn next_ballot(&self, recorded: u32) -> Result<Ballot, ProposerFault>
-        ensures { MatchResult result (λ b. (b ≡ record { round = max recorded self.now.heard + 1; node = self.now.me }) × (max recorded self.now.heard < MAX_ROUND)) (λ fault. (fault ≡ RoundsUsedUp) × (max recorded self.now.heard ≡ MAX_ROUND)) }
+        ensures { MatchResult result (λ b. (b
+            ≡ record { round = max recorded self.now.heard + 1; node = self.now.me })
+            × (max recorded self.now.heard < MAX_ROUND))
+            (λ fault. (fault ≡ RoundsUsedUp) × (max recorded self.now.heard ≡ MAX_ROUND)) }
     {
         let last = recorded.max(self.heard);
         if last == MAX_ROUND {
@@ -88,8 +92,10 @@ impl Proposer {
 
     /// Makes room for an attempt at an instance. The attempts stay as they are.
     pub fn make_room(&mut self, instance: Instance) -> Result<(), AllocError>
-        ensures same { (self.new.cluster ≡ self.old.cluster) × (self.new.me ≡ self.old.me) × (self.new.heard ≡ self.old.heard) }
-        ensures stays { (attempts : ℕ → Option Attempt) → Attempting self.old attempts → Attempting self.new attempts }
+        ensures same { (self.new.cluster ≡ self.old.cluster) × (self.new.me ≡ self.old.me)
+            × (self.new.heard ≡ self.old.heard) }
+        ensures stays { (attempts : ℕ → Option Attempt) → Attempting self.old attempts
+            → Attempting self.new attempts }
         ensures room { OnOk result (HasRoom self.new instance) }
         ensures kept { (other : ℕ) → HasRoom self.old other → HasRoom self.new other }
     {
@@ -104,8 +110,10 @@ impl Proposer {
     /// most `MAX_ATTEMPTS` open. Nothing here depends on either.
     pub fn open(&mut self, instance: Instance, ballot: Ballot, own: Value)
         requires { HasRoom self.old instance }
-        ensures same { (self.new.cluster ≡ self.old.cluster) × (self.new.me ≡ self.old.me) × (self.new.heard ≡ self.old.heard) }
-        ensures opened { (attempts : ℕ → Option Attempt) → Attempting self.old attempts → Attempting self.new (put_at attempts instance (Some (opened ballot own))) }
+        ensures same { (self.new.cluster ≡ self.old.cluster) × (self.new.me ≡ self.old.me)
+            × (self.new.heard ≡ self.old.heard) }
+        ensures opened { (attempts : ℕ → Option Attempt) → Attempting self.old attempts
+            → Attempting self.new (put_at attempts instance (Some (opened ballot own))) }
         ensures kept { (other : ℕ) → HasRoom self.old other → HasRoom self.new other }
     {
         let attempt = OpenAttempt {
@@ -123,8 +131,10 @@ impl Proposer {
     pub fn open_span(&mut self, first: Instance, ballot: Ballot, values: Vec<Value>)
         requires span { IsSpan first (length values.items) }
         requires room { (at : ℕ) → IsInSpan first (length values.items) at → HasRoom self.old at }
-        ensures same { (self.new.cluster ≡ self.old.cluster) × (self.new.me ≡ self.old.me) × (self.new.heard ≡ self.old.heard) }
-        ensures opened { (attempts : ℕ → Option Attempt) → Attempting self.old attempts → Attempting self.new (opened_span attempts first ballot values.items) }
+        ensures same { (self.new.cluster ≡ self.old.cluster) × (self.new.me ≡ self.old.me)
+            × (self.new.heard ≡ self.old.heard) }
+        ensures opened { (attempts : ℕ → Option Attempt) → Attempting self.old attempts
+            → Attempting self.new (opened_span attempts first ballot values.items) }
     {
         let mut past = 0;
         for own in values {
@@ -143,9 +153,12 @@ impl Proposer {
         ballot: Ballot,
         own: &Value,
     ) -> Result<(), AllocError>
-        ensures same { (self.new.cluster ≡ self.old.cluster) × (self.new.me ≡ self.old.me) × (self.new.heard ≡ self.old.heard) }
-        ensures ok { OnOk result ((attempts : ℕ → Option Attempt) → Attempting self.old attempts → Attempting self.new (put_at attempts instance (Some (opened ballot own.now)))) }
-        ensures err { OnErr result ((attempts : ℕ → Option Attempt) → Attempting self.old attempts → Attempting self.new attempts) }
+        ensures same { (self.new.cluster ≡ self.old.cluster) × (self.new.me ≡ self.old.me)
+            × (self.new.heard ≡ self.old.heard) }
+        ensures ok { OnOk result ((attempts : ℕ → Option Attempt) → Attempting self.old attempts
+            → Attempting self.new (put_at attempts instance (Some (opened ballot own.now)))) }
+        ensures err { OnErr result ((attempts : ℕ → Option Attempt) → Attempting self.old attempts
+            → Attempting self.new attempts) }
     {
         let own = own.try_clone()?;
         self.make_room(instance)?;
@@ -157,8 +170,10 @@ impl Proposer {
     /// are.
     pub fn make_room_for_span(&mut self, first: Instance, count: u8) -> Result<(), AllocError>
         requires { IsSpan first count }
-        ensures same { (self.new.cluster ≡ self.old.cluster) × (self.new.me ≡ self.old.me) × (self.new.heard ≡ self.old.heard) }
-        ensures stays { (attempts : ℕ → Option Attempt) → Attempting self.old attempts → Attempting self.new attempts }
+        ensures same { (self.new.cluster ≡ self.old.cluster) × (self.new.me ≡ self.old.me)
+            × (self.new.heard ≡ self.old.heard) }
+        ensures stays { (attempts : ℕ → Option Attempt) → Attempting self.old attempts
+            → Attempting self.new attempts }
         ensures room { OnOk result ((at : ℕ) → IsInSpan first count at → HasRoom self.new at) }
     {
         let mut past = 0;
@@ -180,9 +195,12 @@ impl Proposer {
         own: Vec<Value>,
     ) -> Result<(), (AllocError, Vec<Value>)>
         requires { IsSpan first (length own.items) }
-        ensures same { (self.new.cluster ≡ self.old.cluster) × (self.new.me ≡ self.old.me) × (self.new.heard ≡ self.old.heard) }
-        ensures ok { OnOk result ((attempts : ℕ → Option Attempt) → Attempting self.old attempts → Attempting self.new (opened_span attempts first ballot own.items)) }
-        ensures err { OnErr result ((attempts : ℕ → Option Attempt) → Attempting self.old attempts → Attempting self.new attempts) }
+        ensures same { (self.new.cluster ≡ self.old.cluster) × (self.new.me ≡ self.old.me)
+            × (self.new.heard ≡ self.old.heard) }
+        ensures ok { OnOk result ((attempts : ℕ → Option Attempt) → Attempting self.old attempts
+            → Attempting self.new (opened_span attempts first ballot own.items)) }
+        ensures err { OnErr result ((attempts : ℕ → Option Attempt) → Attempting self.old attempts
+            → Attempting self.new attempts) }
         ensures back { IfErr result (λ e. e.1 ≡ own) }
     {
         if let Err(wanted) = self.make_room_for_span(first, own.len() as u8) {
@@ -202,8 +220,11 @@ impl Proposer {
         prior: Option<&Vote>,
     ) -> Result<Option<Proposal>, ProposerFault>
         requires { IsNode self.old.cluster from }
-        ensures same { (self.new.cluster ≡ self.old.cluster) × (self.new.me ≡ self.old.me) × (self.new.heard ≡ self.old.heard) }
-        ensures step { (attempts : ℕ → Option Attempt) → Attempting self.old attempts → Promised self.old.cluster attempts from instance ballot (vote_told prior.entry) result self.new }
+        ensures same { (self.new.cluster ≡ self.old.cluster) × (self.new.me ≡ self.old.me)
+            × (self.new.heard ≡ self.old.heard) }
+        ensures step { (attempts : ℕ → Option Attempt) → Attempting self.old attempts
+            → Promised self.old.cluster attempts from instance ballot
+            (vote_told prior.entry) result self.new }
     {
         let cluster = self.cluster;
         let Some(place) = self.attempts.get_mut(&instance.number()) else {
@@ -231,7 +252,9 @@ impl Proposer {
 
     /// The latest message of the attempt at an instance, if one is open.
     pub fn resend(&self, instance: Instance) -> Result<Option<Message>, AllocError>
-        ensures { (attempts : ℕ → Option Attempt) → Attempting self.now attempts → IfOk result (λ message. message ≡ option_map (λ a. latest self.now.me instance a.ballot a.proposal) (attempts instance)) }
+        ensures { (attempts : ℕ → Option Attempt) → Attempting self.now attempts
+            → IfOk result (λ message. message
+            ≡ option_map (λ a. latest self.now.me instance a.ballot a.proposal) (attempts instance)) }
     {
         let Some(Some(attempt)) = self.attempts.get(&instance.number()) else {
             return Ok(None);
@@ -268,7 +291,8 @@ impl Proposer {
 
     /// The own value of the attempt at an instance, if one is open.
     pub fn own_value(&self, instance: Instance) -> Option<&Value>
-        ensures { (attempts : ℕ → Option Attempt) → Attempting self.now attempts → option_map (λ v. v.now) result ≡ option_map (λ a. a.own) (attempts instance) }
+        ensures { (attempts : ℕ → Option Attempt) → Attempting self.now attempts
+            → option_map (λ v. v.now) result ≡ option_map (λ a. a.own) (attempts instance) }
     {
         match self.attempts.get(&instance.number()) {
             Some(Some(attempt)) => Some(&attempt.own),
@@ -278,7 +302,8 @@ impl Proposer {
 
     /// Whether an open attempt has the value as its own.
     pub fn tries(&self, value: &[u8]) -> bool
-        ensures { (attempts : ℕ → Option Attempt) → Attempting self.now attempts → IsTrue result ↔ ((i : ℕ) × (a : Attempt) × (attempts i ≡ Some a) × (a.own ≡ value.now)) }
+        ensures { (attempts : ℕ → Option Attempt) → Attempting self.now attempts
+            → IsTrue result ↔ ((i : ℕ) × (a : Attempt) × (attempts i ≡ Some a) × (a.own ≡ value.now)) }
     {
         for attempt in self.attempts.values() {
             if has_own(attempt, value) {
@@ -290,8 +315,10 @@ impl Proposer {
 
     /// Closes the attempt at an instance, if one is open.
     pub fn abandon(&mut self, instance: Instance)
-        ensures same { (self.new.cluster ≡ self.old.cluster) × (self.new.me ≡ self.old.me) × (self.new.heard ≡ self.old.heard) }
-        ensures closed { (attempts : ℕ → Option Attempt) → Attempting self.old attempts → Attempting self.new (put_at attempts instance None) }
+        ensures same { (self.new.cluster ≡ self.old.cluster) × (self.new.me ≡ self.old.me)
+            × (self.new.heard ≡ self.old.heard) }
+        ensures closed { (attempts : ℕ → Option Attempt) → Attempting self.old attempts
+            → Attempting self.new (put_at attempts instance None) }
     {
         self.attempts.remove(&instance.number());
     }

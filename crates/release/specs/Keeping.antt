@@ -21,9 +21,11 @@ listed None = []
 listed (Some x) = x ∷ []
 
 -- what is kept beside the values: the contents of all, those of each release, and the receipts
-pub record Keeps (values : List (List ℕ)) (live : ContentsSeen) (sites : List ContentsSeen) (receipts : BTreeMap Ticket ℕ) : Type 0 where
+pub record Keeps (values : List (List ℕ)) (live : ContentsSeen) (sites : List ContentsSeen)
+    (receipts : BTreeMap Ticket ℕ) : Type 0 where
   pub few : length values ≤ MAX_INSTANCE
   pub stands : HasContents live (effective values)
   pub count : length sites ≡ release_count (effective values)
-  pub each : (place : ℕ) (site : ContentsSeen) → slice_get sites place ≡ Some site → IsSiteOfRelease values (suc place) site
+  pub each : (place : ℕ) (site : ContentsSeen) → slice_get sites place ≡ Some site
+      → IsSiteOfRelease values (suc place) site
   pub found : (ticket : Ticket) → get ticket_cmp receipts ticket ≡ receipt_of ticket values

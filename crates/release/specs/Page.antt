@@ -1,5 +1,6 @@
 -- The page of a site for a path, and the answer of a list of values for a release and a path.
-use Rattle.std.specs.Prelude.{ℕ, ◌&&◌, ◌++◌, nat_lt, nat_le, if◌then◌else◌, codes, List, Option, None, Some, Result, Ok, Err}
+use Rattle.std.specs.Prelude.{ℕ, ◌&&◌, ◌++◌, nat_lt, nat_le, if◌then◌else◌, codes, List, Option, None, Some}
+use Rattle.std.specs.Prelude.{Result, Ok, Err}
 use Rattle.mustache_parse.specs.Tree.{Tree, tree_of}
 use Rattle.mustache_scan.specs.declared.fault.TemplateFault.{TemplateFault}
 use Rattle.context.specs.Whole.{Whole}
@@ -20,7 +21,8 @@ abbrev pub in_place : ℕ → List ℕ → Page
 in_place status body = record { status = status; body = body; location = None }
 
 abbrev pub moved_to : List ℕ → Page
-moved_to target = record { status = 301; body = codes "moved to " ++ (target ++ codes "\n"); location = Some target }
+moved_to target =
+    record { status = 301; body = codes "moved to " ++ (target ++ codes "\n"); location = Some target }
 
 abbrev pub not_found : Page
 not_found = in_place 404 (codes "not found\n")
@@ -64,7 +66,8 @@ page_of orders path = at_route orders path (route_at path orders)
 
 -- the page of release n of a list of effective commands; None if there is no such release
 abbrev pub released : List Order → ℕ → List ℕ → Option Page
-released orders n path = if nat_lt 0 n && nat_le n (release_count orders) then Some (page_of (through orders n) path) else None
+released orders n path =
+    if nat_lt 0 n && nat_le n (release_count orders) then Some (page_of (through orders n) path) else None
 
 -- what a list of values answers for release n and a path
 abbrev pub answer : List (List ℕ) → ℕ → List ℕ → Option Page

@@ -6,7 +6,8 @@ use Rattle.release.specs.declared.answer.Answer.{Answer}
 use Rattle.release.specs.declared.releases.Releases.TheInside.{Inside}
 
 abbrev pub answer_view : Answer → Page
-answer_view a = record { status = a.status; body = string_bytes a.body; location = option_map string_bytes a.location }
+answer_view a =
+    record { status = a.status; body = string_bytes a.body; location = option_map string_bytes a.location }
 
 abbrev pub values_fed : Inside → List (List ℕ)
 values_fed r = r.kept.fed.items

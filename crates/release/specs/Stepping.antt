@@ -10,4 +10,5 @@ use Rattle.release.specs.declared.step.Step.TheVariants.{Change, Release}
 -- the step of the order o after the others
 abbrev pub IsStep : Step → List Order → Order → Type 0
 IsStep (Change site) orders o = (Changed ≡ answered o.action) × HasContents site (orders ++ o ∷ [])
-IsStep (Release site copy) orders o = (Released ≡ answered o.action) × HasContents site (orders ++ o ∷ []) × (copy ≡ site)
+IsStep (Release site copy) orders o =
+    (Released ≡ answered o.action) × HasContents site (orders ++ o ∷ []) × (copy ≡ site)

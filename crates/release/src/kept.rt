@@ -36,9 +36,12 @@ impl<S: Drop> Kept<S> {
         ensures fed { OnOk result (self.new.fed.items ≡ self.old.fed.items ++ (effect.value ∷ [])) }
         ensures live { OnOk result (self.new.live ≡ effect.site) }
         ensures sites { OnOk result (self.new.sites.items ≡ self.old.sites.items ++ listed effect.release) }
-        ensures receipts { OnOk result (Updates ticket_cmp self.old.receipts self.new.receipts effect.ticket (Some (length self.old.fed.items + 1))) }
-        ensures err { OnErr result ((self.new.fed.items ≡ self.old.fed.items) × (self.new.live ≡ self.old.live)
-            × (self.new.sites.items ≡ self.old.sites.items) × (self.new.receipts.entries ≡ self.old.receipts.entries)) }
+        ensures receipts { OnOk result (Updates ticket_cmp self.old.receipts self.new.receipts effect.ticket
+            (Some (length self.old.fed.items + 1))) }
+        ensures err { OnErr result ((self.new.fed.items ≡ self.old.fed.items)
+            × (self.new.live ≡ self.old.live)
+            × (self.new.sites.items ≡ self.old.sites.items)
+            × (self.new.receipts.entries ≡ self.old.receipts.entries)) }
     {
         let Some(instance) = Instance::new(self.fed.len() as u32 + 1) else {
             unreachable!()

@@ -27,7 +27,8 @@ impl Partials for SitePartials<'_> {
     ghost use Rattle.command.specs.Site.{partial_at};
     ghost use Rattle.content.specs.Standing.{HasContents};
 
-    ghost stands = { λ partials texts. (orders : List Order) × HasContents partials.site.now orders × ((name : List ℕ) → texts name ≡ partial_at name orders) };
+    ghost stands = { λ partials texts. (orders : List Order) × HasContents partials.site.now orders
+        × ((name : List ℕ) → texts name ≡ partial_at name orders) };
 
     fn find(&self, name: &str) -> Option<&Template> {
         self.site.partial(name)
@@ -57,7 +58,8 @@ fn moved(alloc: Global, target: &str) -> Result<Answer, AllocError>
 
 /// The page of a path without a route.
 fn unrouted(alloc: Global, site: &Contents, path: &str) -> Result<Answer, AllocError>
-    ensures { IfOk result (λ a. (orders : List Order) → HasContents site.now orders → answer_view a ≡ redirected (redirect_at path.now orders)) }
+    ensures { IfOk result (λ a. (orders : List Order) → HasContents site.now orders
+        → answer_view a ≡ redirected (redirect_at path.now orders)) }
 {
     match site.redirect(path) {
         Some(target) => moved(alloc, target),
@@ -66,7 +68,8 @@ fn unrouted(alloc: Global, site: &Contents, path: &str) -> Result<Answer, AllocE
 }
 
 pub(crate) fn page(alloc: Global, site: &Contents, path: &str) -> Result<Answer, AllocError>
-    ensures { IfOk result (λ a. (orders : List Order) → HasContents site.now orders → answer_view a ≡ page_of orders path.now) }
+    ensures { IfOk result (λ a. (orders : List Order) → HasContents site.now orders
+        → answer_view a ≡ page_of orders path.now) }
 {
     let Some((template, of)) = site.route(path) else {
         return unrouted(alloc, site, path);

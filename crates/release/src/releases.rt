@@ -1,7 +1,8 @@
 //! A repeat is found by its receipt, so kept sites have no set of tickets: this saves 112 bytes a value in
 //! each of them.
 
-ghost use Rattle.std.specs.Prelude.{◌≡◌, ◌≢◌, ◌⊎◌, ◌<◌, ◌≤◌, ◌↔◌, ℕ, List, [], ◌∷◌, ◌++◌, length, Some, Ok, IfOk, IfSome, IsNone, OnOk, OnErr, IsErrOf};
+ghost use Rattle.std.specs.Prelude.{◌≡◌, ◌≢◌, ◌⊎◌, ◌<◌, ◌≤◌, ◌↔◌, ℕ, List, [], ◌∷◌, ◌++◌, length, Some, Ok};
+ghost use Rattle.std.specs.Prelude.{IfOk, IfSome, IsNone, OnOk, OnErr, IsErrOf};
 ghost use Rattle.site_ids.specs.declared.TheConstants.{MAX_INSTANCE};
 ghost use Rattle.command.specs.Action.{Order};
 ghost use Rattle.command.specs.Effective.{effective};
@@ -26,8 +27,8 @@ use std::alloc::{AllocError, Global};
 use std::collections::BTreeMap;
 use std::marker::Model;
 
-/// The values of a log from its first instance on, and the releases that they make. Each value is applied once, and the
-/// site of each release is kept; kept sites share what they have in common.
+/// The values of a log from its first instance on, and the releases that they make. Each value is applied
+/// once, and the site of each release is kept; kept sites share what they have in common.
 pub struct Releases {
     alloc: Global,
     kept: Kept<Contents>,
@@ -92,7 +93,8 @@ impl Releases {
     /// Feeds the value of the next instance.
     pub fn feed(&mut self, value: &[u8]) -> Result<Applied, AllocError>
         requires { length self.old < MAX_INSTANCE }
-        ensures ok { IfOk result (λ a. (self.new ≡ self.old ++ (value.now ∷ [])) × (a ≡ applied self.old value.now)) }
+        ensures ok { IfOk result (λ a. (self.new ≡ self.old ++ (value.now ∷ []))
+            × (a ≡ applied self.old value.now)) }
         ensures err { OnErr result (self.new ≡ self.old) }
     {
         let value = Value::copied_from(self.alloc, value)?;
@@ -160,7 +162,8 @@ impl Releases {
     /// Adds a value that has no effect.
     fn pass(&mut self, value: Value) -> Result<(), AllocError>
         requires few { length self.old < MAX_INSTANCE }
-        requires passes { (applied self.old value ≢ Applied.Changed) × (applied self.old value ≢ Applied.Released) }
+        requires passes { (applied self.old value ≢ Applied.Changed)
+            × (applied self.old value ≢ Applied.Released) }
         ensures ok { OnOk result (self.new ≡ self.old ++ (value ∷ [])) }
         ensures err { OnErr result (self.new ≡ self.old) }
     {
@@ -187,7 +190,8 @@ impl Releases {
     /// The page of release n for a path.
     pub fn answer(&self, n: u64, path: &str) -> Result<Answer, AnswerFault>
         ensures ok { IfOk result (λ a. answer self.now n path.now ≡ Some (answer_view a)) }
-        ensures none { IsErrOf result AnswerFault.NoSuchRelease ↔ ((n ≡ 0) ⊎ (release_count (effective self.now) < n)) }
+        ensures none { IsErrOf result AnswerFault.NoSuchRelease
+            ↔ ((n ≡ 0) ⊎ (release_count (effective self.now) < n)) }
     {
         let Some(site) = self.site(n) else {
             return Err(AnswerFault::NoSuchRelease);

@@ -36,7 +36,8 @@ fn released(site: Contents) -> Result<Step, AllocError>
 
 /// The step of an action: the site applies it.
 fn acted(mut site: Contents, action: Action) -> Result<Step, AllocError>
-    ensures { IfOk result (λ step. (orders : List Order) (order : Order) → StandsAs action order.action → HasContents site orders → IsStep step orders order) }
+    ensures { IfOk result (λ step. (orders : List Order) (order : Order) → StandsAs action order.action
+        → HasContents site orders → IsStep step orders order) }
 {
     match site.act(action) {
         Ok(applied) => match applied {
@@ -52,7 +53,8 @@ fn acted(mut site: Contents, action: Action) -> Result<Step, AllocError>
 
 /// The step of the next command, by its action.
 pub(crate) fn step_of(live: &Contents, action: Action) -> Result<Step, AllocError>
-    ensures { IfOk result (λ step. (orders : List Order) (order : Order) → StandsAs action order.action → HasContents live.now orders → IsStep step orders order) }
+    ensures { IfOk result (λ step. (orders : List Order) (order : Order) → StandsAs action order.action
+        → HasContents live.now orders → IsStep step orders order) }
 {
     match live.copy() {
         Ok(site) => acted(site, action),

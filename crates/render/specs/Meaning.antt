@@ -1,6 +1,8 @@
 -- What a template means: a text and its cost, or over limit.
-use Rattle.std.specs.Prelude.{ℕ, zero, suc, ◌+◌, nat_le, if◌then◌else◌, List, [], ◌∷◌, ◌++◌, Option, None, Some, Result, Ok, Err, length}
-use Rattle.mustache_parse.specs.Tree.{Tree, nothing, text as literal, variable, raw, partial, section, inverted, tree_of}
+use Rattle.std.specs.Prelude.{ℕ, zero, suc, ◌+◌, nat_le, if◌then◌else◌, List, [], ◌∷◌, ◌++◌, Option, None}
+use Rattle.std.specs.Prelude.{Some, Result, Ok, Err, length}
+use Rattle.mustache_parse.specs.Tree.{Tree, nothing, text as literal, variable, raw, partial, section}
+use Rattle.mustache_parse.specs.Tree.{inverted, tree_of}
 use Rattle.mustache_scan.specs.declared.fault.TemplateFault.{TemplateFault}
 use Rattle.mustache_parse.specs.Indent.{indented}
 use Rattle.context.specs.Whole.{Whole}
@@ -44,13 +46,20 @@ Partials = List ℕ → Option (List ℕ)
 unfoldable pub meaning_with : ((name indent : List ℕ) → List Whole → Meaning) → Tree → List Whole → Meaning
 meaning_with call nothing stack = Costs [] 0
 meaning_with call (literal t rest) stack = and_then (prints t) (meaning_with call rest stack)
-meaning_with call (variable name rest) stack = and_then (and_then costs_one (prints (escaped (printed (look_up name stack))))) (meaning_with call rest stack)
-meaning_with call (raw name rest) stack = and_then (and_then costs_one (prints (printed (look_up name stack)))) (meaning_with call rest stack)
-meaning_with call (partial name indent rest) stack = and_then (and_then costs_one (call name indent stack)) (meaning_with call rest stack)
+meaning_with call (variable name rest) stack =
+    and_then (and_then costs_one (prints (escaped (printed (look_up name stack)))))
+    (meaning_with call rest stack)
+meaning_with call (raw name rest) stack =
+    and_then (and_then costs_one (prints (printed (look_up name stack)))) (meaning_with call rest stack)
+meaning_with call (partial name indent rest) stack =
+    and_then (and_then costs_one (call name indent stack)) (meaning_with call rest stack)
 meaning_with call (section name block rest) stack =
-    and_then (and_then costs_one (for_each (λ v. meaning_with call block (v ∷ stack)) (items_of (look_up name stack)))) (meaning_with call rest stack)
+    and_then (and_then costs_one
+    (for_each (λ v. meaning_with call block (v ∷ stack)) (items_of (look_up name stack))))
+    (meaning_with call rest stack)
 meaning_with call (inverted name block rest) stack =
-    and_then (and_then costs_one (where_none (meaning_with call block stack) (items_of (look_up name stack)))) (meaning_with call rest stack)
+    and_then (and_then costs_one (where_none (meaning_with call block stack) (items_of (look_up name stack))))
+    (meaning_with call rest stack)
 
 -- the meaning of a text's tree. The second case never occurs: a partial's text has a tree, and the indented
 -- text has one too
@@ -68,8 +77,10 @@ too_deep t stack = Over
 
 -- the meaning of a tree in which partials may nest n deep
 unfoldable pub meaning_to : ℕ → Partials → Tree → List Whole → Meaning
-meaning_to zero partials t stack = meaning_with (λ name indent s. called too_deep (partials name) indent s) t stack
-meaning_to (suc n) partials t stack = meaning_with (λ name indent s. called (meaning_to n partials) (partials name) indent s) t stack
+meaning_to zero partials t stack =
+    meaning_with (λ name indent s. called too_deep (partials name) indent s) t stack
+meaning_to (suc n) partials t stack =
+    meaning_with (λ name indent s. called (meaning_to n partials) (partials name) indent s) t stack
 
 abbrev pub max_nested : ℕ
 max_nested = 32

@@ -1,5 +1,6 @@
 -- The text that a value prints, and escaping (mustache(5), "Variables").
-use Rattle.std.specs.Prelude.{ℕ, true, false, ◌==◌, if◌then◌else◌, codes, List, [], ◌∷◌, Option, None, Some, flat_map}
+use Rattle.std.specs.Prelude.{ℕ, true, false, ◌==◌, if◌then◌else◌, codes, List, [], ◌∷◌, Option, None, Some}
+use Rattle.std.specs.Prelude.{flat_map}
 use Rattle.std.specs.Fmt.{signed_decimal}
 use Rattle.context.specs.Whole.{Whole, null, boolean, int, text, list, hash}
 

@@ -1,4 +1,5 @@
-ghost use Rattle.std.specs.Prelude.{◌≡◌, ◌<◌, List, ℕ, [], ◌∷◌, ◌++◌, MatchOption, OnOk, OnErr, length, string_bytes};
+ghost use Rattle.std.specs.Prelude.{◌≡◌, ◌<◌, List, ℕ, [], ◌∷◌, ◌++◌, MatchOption, OnOk, OnErr, length};
+ghost use Rattle.std.specs.Prelude.{string_bytes};
 ghost use Rattle.render.specs.Printed.{escaped, escaped_byte};
 
 use std::alloc::AllocError;
@@ -13,7 +14,8 @@ struct Special<'a> {
 
 /// The entity of a byte that is not printed as itself.
 fn entity_of(byte: u8) -> Option<&'static str>
-    ensures { MatchOption result (escaped_byte byte ≡ byte ∷ []) (λ x. (escaped_byte byte ≡ x.now) × (byte < 128)) }
+    ensures { MatchOption result (escaped_byte byte ≡ byte ∷ [])
+        (λ x. (escaped_byte byte ≡ x.now) × (byte < 128)) }
 {
     if byte > b'&' && byte < b'<' {
         return None;
@@ -29,7 +31,8 @@ fn entity_of(byte: u8) -> Option<&'static str>
 
 fn next_special(text: &str) -> Option<Special<'_>>
     ensures { MatchOption result (escaped text.now ≡ text.now)
-        (λ x. (escaped text.now ≡ x.plain.now ++ x.entity.now ++ escaped x.rest.now) × (length x.rest.now < length text.now)) }
+        (λ x. (escaped text.now ≡ x.plain.now ++ x.entity.now ++ escaped x.rest.now)
+        × (length x.rest.now < length text.now)) }
 {
     for (at, byte) in text.as_bytes().iter().enumerate() {
         if let Some(entity) = entity_of(*byte) {

@@ -1,4 +1,5 @@
-ghost use Rattle.std.specs.Prelude.{◌≡◌, ◌<◌, ◌||◌, ◌&&◌, ◌==◌, not, true, Bool, List, ℕ, IfSome, MatchOption, ◌∷◌, ◌++◌, length};
+ghost use Rattle.std.specs.Prelude.{◌≡◌, ◌<◌, ◌||◌, ◌&&◌, ◌==◌, not, true, Bool, List, ℕ, IfSome};
+ghost use Rattle.std.specs.Prelude.{MatchOption, ◌∷◌, ◌++◌, length};
 ghost use Rattle.mustache_parse.specs.Margin.{literal_under};
 ghost use Rattle.render.specs.Margin.{lead, margin_text, margin_at};
 ghost use Rattle.render.specs.Meaning.{prints};
@@ -11,8 +12,12 @@ use crate::output::Output;
 /// The first line, without its newline, and what follows it; `None` if the text has no newline.
 fn first_line(text: &str) -> Option<(&str, &str)>
     ensures line { MatchOption result
-        ((w : List ℕ) (leads trails : Bool) → literal_under w leads trails text.now ≡ lead w (leads && (trails || not (length text.now == 0))) ++ text.now)
-        (λ x. (w : List ℕ) (leads trails : Bool) → literal_under w leads trails text.now ≡ (lead w leads ++ x.0.now) ++ 10 ∷ literal_under w true trails x.1.now) }
+        ((w : List ℕ) (leads trails : Bool)
+        → literal_under w leads trails text.now
+        ≡ lead w (leads && (trails || not (length text.now == 0))) ++ text.now)
+        (λ x. (w : List ℕ) (leads trails : Bool)
+        → literal_under w leads trails text.now
+        ≡ (lead w leads ++ x.0.now) ++ 10 ∷ literal_under w true trails x.1.now) }
     ensures shorter { IfSome result (λ x. length x.1.now < length text.now) }
 {
     text.split_once('\n')
@@ -26,7 +31,8 @@ fn print_lines(
     margin: &Margin<'_>,
     out: &mut Output,
 ) -> Result<(), RenderFault>
-    ensures { Adds out.old out.new (prints (literal_under (margin_text margin.now) leads trails text.now)) result }
+    ensures { Adds out.old out.new
+        (prints (literal_under (margin_text margin.now) leads trails text.now)) result }
 {
     let mut rest = text;
     let mut begins = leads;
@@ -47,7 +53,8 @@ pub(crate) fn print_text(
     margin: Option<&Margin<'_>>,
     out: &mut Output,
 ) -> Result<(), RenderFault>
-    ensures { Adds out.old out.new (prints (literal_under (margin_at margin.entry) leads trails text.now)) result }
+    ensures { Adds out.old out.new
+        (prints (literal_under (margin_at margin.entry) leads trails text.now)) result }
 {
     match margin {
         None => out.print(text),

@@ -36,7 +36,8 @@ pub(crate) fn margin_within<'a>(
     }
 }
 
-/// Prints a margin, the outermost blanks first. It is paid for by its bytes, and no deeper than partials nest.
+/// Prints a margin, the outermost blanks first. It is paid for by its bytes, and no deeper than partials
+/// nest.
 pub(crate) fn print_margin(margin: &Margin<'_>, out: &mut Output) -> Result<(), RenderFault>
     ensures { Adds out.old out.new (prints (margin_text margin.now)) result }
 {

@@ -8,7 +8,8 @@ ghost use Rattle.mustache_parse.specs.BlankIndents.{HasBlankIndents};
 ghost use Rattle.mustache_parse.specs.Indenting.{AreBlank};
 ghost use Rattle.render.specs.Margin.{margin_at};
 ghost use Rattle.render.specs.Printed.{printed, escaped};
-ghost use Rattle.render.specs.Meaning.{and_then, costs_one, prints, for_each, where_none, Partials as Texts, meaning_to};
+ghost use Rattle.render.specs.Meaning.{and_then, costs_one, prints, for_each, where_none, Partials as Texts};
+ghost use Rattle.render.specs.Meaning.{meaning_to};
 ghost use Rattle.render.specs.Rendering.{Adds, called_at};
 
 use crate::fault::RenderFault;
@@ -21,7 +22,8 @@ use context::{Data, Frame, items, resolve};
 use itoa::Buffer;
 use mustache_parse::Node;
 
-/// Where nodes are printed: under which margin, over which frame, with which partials, and how many more of these may nest.
+/// Where nodes are printed: under which margin, over which frame, with which partials, and how many more of
+/// these may nest.
 #[derive(Drop)]
 pub(crate) struct Scope<'a, P: Partials> {
     pub margin: Option<&'a Margin<'a>>,
@@ -31,7 +33,8 @@ pub(crate) struct Scope<'a, P: Partials> {
 }
 
 fn render_variable(name: &str, frame: &Frame<'_>, out: &mut Output) -> Result<(), RenderFault>
-    ensures { Adds out.old out.new (and_then costs_one (prints (escaped (printed (look_up name.now (stack_of frame.now)))))) result }
+    ensures { Adds out.old out.new
+        (and_then costs_one (prints (escaped (printed (look_up name.now (stack_of frame.now)))))) result }
 {
     out.charge(1)?;
     let mut buffer = Buffer::new();
@@ -39,7 +42,8 @@ fn render_variable(name: &str, frame: &Frame<'_>, out: &mut Output) -> Result<()
 }
 
 fn render_raw(name: &str, frame: &Frame<'_>, out: &mut Output) -> Result<(), RenderFault>
-    ensures { Adds out.old out.new (and_then costs_one (prints (printed (look_up name.now (stack_of frame.now))))) result }
+    ensures { Adds out.old out.new
+        (and_then costs_one (prints (printed (look_up name.now (stack_of frame.now))))) result }
 {
     out.charge(1)?;
     let mut buffer = Buffer::new();
@@ -63,8 +67,11 @@ pub(crate) fn render_nodes<P: Partials>(
     scope: &Scope<'_, P>,
     out: &mut Output,
 ) -> Result<(), RenderFault>
-    ensures adds { (texts : Texts) → P.stands scope.now.partials.now texts → AreBlank (margin_at scope.now.margin) → HasBlankIndents (tree_view [] nodes.now)
-        → Adds out.old out.new (meaning_to scope.now.depth texts (tree_view (margin_at scope.now.margin) nodes.now) (stack_of scope.now.frame.now)) result }
+    ensures adds { (texts : Texts) → P.stands scope.now.partials.now texts
+        → AreBlank (margin_at scope.now.margin) → HasBlankIndents (tree_view [] nodes.now)
+        → Adds out.old out.new
+        (meaning_to scope.now.depth texts (tree_view (margin_at scope.now.margin) nodes.now)
+        (stack_of scope.now.frame.now)) result }
     ensures spent { OnOk result (out.new.left ≤ out.old.left) }
 {
     for node in nodes {
@@ -79,8 +86,11 @@ fn render_node<P: Partials>(
     scope: &Scope<'_, P>,
     out: &mut Output,
 ) -> Result<(), RenderFault>
-    ensures adds { (texts : Texts) → P.stands scope.now.partials.now texts → AreBlank (margin_at scope.now.margin) → HasBlankIndents (node_onto [] node.now nothing)
-        → Adds out.old out.new (meaning_to scope.now.depth texts (node_onto (margin_at scope.now.margin) node.now nothing) (stack_of scope.now.frame.now)) result }
+    ensures adds { (texts : Texts) → P.stands scope.now.partials.now texts
+        → AreBlank (margin_at scope.now.margin) → HasBlankIndents (node_onto [] node.now nothing)
+        → Adds out.old out.new
+        (meaning_to scope.now.depth texts (node_onto (margin_at scope.now.margin) node.now nothing)
+        (stack_of scope.now.frame.now)) result }
     ensures spent { OnOk result (out.new.left ≤ out.old.left) }
 {
     match node {
@@ -116,8 +126,11 @@ fn render_items<P: Partials>(
     scope: &Scope<'_, P>,
     out: &mut Output,
 ) -> Result<(), RenderFault>
-    ensures adds { (texts : Texts) → P.stands scope.now.partials.now texts → AreBlank (margin_at scope.now.margin) → HasBlankIndents (tree_view [] block.now)
-        → Adds out.old out.new (for_each (λ v. meaning_to scope.now.depth texts (tree_view (margin_at scope.now.margin) block.now) (v ∷ stack_of scope.now.frame.now)) (map data_view pushed.now)) result }
+    ensures adds { (texts : Texts) → P.stands scope.now.partials.now texts
+        → AreBlank (margin_at scope.now.margin) → HasBlankIndents (tree_view [] block.now)
+        → Adds out.old out.new
+        (for_each (λ v. meaning_to scope.now.depth texts (tree_view (margin_at scope.now.margin) block.now)
+        (v ∷ stack_of scope.now.frame.now)) (map data_view pushed.now)) result }
     ensures spent { OnOk result (out.new.left ≤ out.old.left) }
 {
     for item in pushed {
@@ -143,8 +156,11 @@ fn render_where_none<P: Partials>(
     scope: &Scope<'_, P>,
     out: &mut Output,
 ) -> Result<(), RenderFault>
-    ensures adds { (texts : Texts) → P.stands scope.now.partials.now texts → AreBlank (margin_at scope.now.margin) → HasBlankIndents (tree_view [] block.now)
-        → Adds out.old out.new (where_none (meaning_to scope.now.depth texts (tree_view (margin_at scope.now.margin) block.now) (stack_of scope.now.frame.now)) (map data_view found.now)) result }
+    ensures adds { (texts : Texts) → P.stands scope.now.partials.now texts
+        → AreBlank (margin_at scope.now.margin) → HasBlankIndents (tree_view [] block.now)
+        → Adds out.old out.new
+        (where_none (meaning_to scope.now.depth texts (tree_view (margin_at scope.now.margin) block.now)
+        (stack_of scope.now.frame.now)) (map data_view found.now)) result }
     ensures spent { OnOk result (out.new.left ≤ out.old.left) }
 {
     if found.is_empty() {
@@ -163,8 +179,11 @@ fn render_partial<P: Partials>(
     scope: &Scope<'_, P>,
     out: &mut Output,
 ) -> Result<(), RenderFault>
-    ensures adds { (texts : Texts) → P.stands scope.now.partials.now texts → AreBlank (margin_at scope.now.margin) → AreBlank (own_under (margin_at scope.now.margin) own.now)
-        → Adds out.old out.new (called_at scope.now.depth texts name.now (own_under (margin_at scope.now.margin) own.now) (stack_of scope.now.frame.now)) result }
+    ensures adds { (texts : Texts) → P.stands scope.now.partials.now texts
+        → AreBlank (margin_at scope.now.margin) → AreBlank (own_under (margin_at scope.now.margin) own.now)
+        → Adds out.old out.new
+        (called_at scope.now.depth texts name.now (own_under (margin_at scope.now.margin) own.now)
+        (stack_of scope.now.frame.now)) result }
     ensures spent { OnOk result (out.new.left ≤ out.old.left) }
 {
     let Some(found) = scope.partials.find(name) else {

@@ -1,4 +1,5 @@
-//! Sections, items, partials are paid before entered, which ends recursive ones too; depth is judged after the text was read.
+//! Sections, items, partials are paid before entered, which ends recursive ones too; depth is judged after
+//! the text was read.
 
 ghost use Rattle.std.specs.Prelude.{◌≡◌, [], IfOk, IsErrOf, Some, None, string_bytes};
 ghost use Rattle.context.specs.View.{data_view};

@@ -13,5 +13,6 @@ pub trait Partials {
     /// The partial of that name, if there is one.
     fn find(&self, name: &str) -> Option<&Template>
         ensures { (texts : List ℕ → Option (List ℕ)) → stands self.now texts
-            → MatchOption result (texts name.now ≡ None) (λ t. (x : List ℕ) × (texts name.now ≡ Some x) × IsTemplateOf t.now x) };
+            → MatchOption result (texts name.now ≡ None)
+            (λ t. (x : List ℕ) × (texts name.now ≡ Some x) × IsTemplateOf t.now x) };
 }

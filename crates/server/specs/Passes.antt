@@ -134,7 +134,8 @@ StaysAlong stands_for old new s through next = (d : DiskState) → IsOnDisk stan
     → (e : DiskState) × IsOnDisk stands_for new next e
     × LeavesOnly d e (IsOneOf old.me old.cluster (s ∷ through))
 
--- From each node that the old value stands for this leads, through these nodes, to one that the new value stands for
+-- From each node that the old value stands for this leads, through these nodes, to one that the new value
+-- stands for
 pub record Led {D : Type 0} (stands_for : D → DiskState → Type 0) (old new : Running D)
     (How : List Node → Node → Node → Type 0) : Type 0 where
   pub leads : (s : Node) → IsNodeOf old s
@@ -146,7 +147,9 @@ pub record Led {D : Type 0} (stands_for : D → DiskState → Type 0) (old new :
 abbrev pub IsBatchOf : {D : Type 0} → (D → DiskState → Type 0) → LastCall → List (List ℕ) → ℕ
     → List (To × List ℕ) → Running D → Running D → Type 0
 IsBatchOf stands_for last came malformed letters old new = (out : List (To × Message))
-    × LeadsSealed stands_for old new (λ s next. TakesBatch last old.cluster old.me came malformed out new.releases s next × (letters ≡ spelled_of out))
+    × LeadsSealed stands_for old new
+    (λ s next. TakesBatch last old.cluster old.me came malformed out new.releases s next
+    × (letters ≡ spelled_of out))
 
 -- the same with some last call
 abbrev pub IsBatched : {D : Type 0} → (D → DiskState → Type 0) → List (List ℕ) → ℕ → List (To × List ℕ)

@@ -82,7 +82,8 @@ fn open<R: Net<Listener = TcpListener, Stream = TcpStream> + Files<File = File> 
     cause: &mut Cause,
 ) -> Result<(Box<FileServer>, Shell), ServerFault>
     ensures ok { OnOk result (IsPlaced options.now) }
-    ensures opened { IfOk result (λ parts. IsOpened ⟦<FileDisk as Disk>⟧.stands_for (length options.now.peers.items) options.now.id parts.0.value.served.node) }
+    ensures opened { IfOk result (λ parts. IsOpened ⟦<FileDisk as Disk>⟧.stands_for
+        (length options.now.peers.items) options.now.id parts.0.value.served.node) }
     ensures err { IfErr result (λ why. EndsBefore options.now why) }
 {
     let addresses = read_addresses(alloc, options)?;
@@ -143,10 +144,12 @@ fn start<R: Files<File = File> + Clock, W: Write, E: Write>(
     server: &mut FileServer,
     options: &ServeOptions<'_>,
 ) -> Result<(), ServerFault>
-    ensures said { WorkEnds options.now.verbose (end_of W.contents out.old out.new) (end_of E.contents err.old err.new) options.now.id result }
+    ensures said { WorkEnds options.now.verbose (end_of W.contents out.old out.new)
+        (end_of E.contents err.old err.new) options.now.id result }
     ensures laps { OnOk result (Led ⟦<FileDisk as Disk>⟧.stands_for server.old.served.node server.new.served.node (TakesPasses server.old.served.node.cluster server.old.served.node.me (passes_of options.now.id options.now.rounds) server.new.served.node.releases)) }
     ensures halted { IfErr result (λ why. Led ⟦<FileDisk as Disk>⟧.stands_for server.old.served.node server.new.served.node (BreaksWork server.old.served.node.cluster server.old.served.node.me (passes_of options.now.id options.now.rounds) why)
-        ⊎ LosesPasses ⟦<FileDisk as Disk>⟧.stands_for server.old.served.node server.new.served.node (passes_of options.now.id options.now.rounds) why) }
+        ⊎ LosesPasses ⟦<FileDisk as Disk>⟧.stands_for server.old.served.node server.new.served.node
+        (passes_of options.now.id options.now.rounds) why) }
 {
     let count = count_passes(options.id, options.rounds);
     work(rt, alloc, out, err, shell, server, count, options)
@@ -165,8 +168,12 @@ fn run<
     options: &ServeOptions<'_>,
     cause: &mut Cause,
 ) -> Result<(), ServerFault>
-    ensures said { RunEnds (end_of W.contents out.old out.new) (end_of E.contents err.old err.new) options.now result }
-    ensures laps { OnOk result (IsRun ⟦<FileDisk as Disk>⟧.stands_for (length options.now.peers.items) options.now.id (TakesPasses (length options.now.peers.items) options.now.id (passes_of options.now.id options.now.rounds))) }
+    ensures said { RunEnds (end_of W.contents out.old out.new)
+        (end_of E.contents err.old err.new) options.now result }
+    ensures laps { OnOk result (IsRun ⟦<FileDisk as Disk>⟧.stands_for
+        (length options.now.peers.items) options.now.id
+        (TakesPasses (length options.now.peers.items) options.now.id
+        (passes_of options.now.id options.now.rounds))) }
 {
     let (mut server, mut shell) = open(rt, alloc, options, cause)?;
     let done = start(rt, alloc, out, err, &mut shell, &mut *server, options);
@@ -186,9 +193,12 @@ pub fn sited<
     err: &mut Counted<E>,
     options: &ServeOptions<'_>,
 ) -> u8
-    ensures said { HasServed (end_of W.contents out.old out.new) (end_of E.contents err.old err.new) options.now result }
+    ensures said { HasServed (end_of W.contents out.old out.new)
+        (end_of E.contents err.old err.new) options.now result }
     ensures laps { result ≡ 0
-        → IsRun ⟦<FileDisk as Disk>⟧.stands_for (length options.now.peers.items) options.now.id (TakesPasses (length options.now.peers.items) options.now.id (passes_of options.now.id options.now.rounds)) }
+        → IsRun ⟦<FileDisk as Disk>⟧.stands_for (length options.now.peers.items) options.now.id
+        (TakesPasses (length options.now.peers.items) options.now.id
+        (passes_of options.now.id options.now.rounds)) }
 {
     let mut cause = Cause::none();
     match run(rt, alloc, out, err, options, &mut cause) {

@@ -25,8 +25,9 @@ const BYTES: usize = 1_000_000;
 
 /// Datagrams that came and wait for the next step, and letters that the last one handed out.
 ///
-/// Who carries them has it take in what came, and sends each letter to whom it is for, one for all to each other node (`pack`). What is for this node itself never leaves it: it
-/// waits for the next step, before all that comes until then.
+/// Who carries them has it take in what came, and sends each letter to whom it is for, one for all to each
+/// other node (`pack`). What is for this node itself never leaves it: it waits for the next step, before all
+/// that comes until then.
 #[derive(Drop)]
 pub struct Mail {
     alloc: Global,
@@ -56,7 +57,8 @@ fn put_own(
     me: NodeId,
     came: &mut Vec<Vec<u8>>,
 ) -> Result<(), AllocError>
-    ensures { OnOk result (bytes_of came.new.items ≡ bytes_of came.old.items ++ own_of me (letters_of (letter.now ∷ []))) }
+    ensures { OnOk result (bytes_of came.new.items
+        ≡ bytes_of came.old.items ++ own_of me (letters_of (letter.now ∷ []))) }
 {
     if reaches(letter.to, me) {
         came.push(Vec::from_slice(alloc, letter.bytes.as_slice())?)?;
@@ -71,7 +73,8 @@ fn put_each(
     me: NodeId,
     came: &mut Vec<Vec<u8>>,
 ) -> Result<(), AllocError>
-    ensures { OnOk result (bytes_of came.new.items ≡ bytes_of came.old.items ++ own_of me (letters_of letters.now)) }
+    ensures { OnOk result (bytes_of came.new.items
+        ≡ bytes_of came.old.items ++ own_of me (letters_of letters.now)) }
 {
     for letter in letters {
         put_own(alloc, letter, me, came)?;

@@ -1,6 +1,7 @@
 //! The passes of a server's laps: what has come is taken in one step, and what goes out is sent.
 //!
-//! Laps count no failure of the device unless they end as stopped, as a node that was stopped before ends by the same word.
+//! Laps count no failure of the device unless they end as stopped, as a node that was stopped before ends by
+//! the same word.
 
 ghost use Rattle.std.specs.Prelude.{◌≡◌, ◌⊎◌, IfErr, OnOk};
 ghost use Rattle.http_read.specs.Bytes.{end_of};
@@ -49,7 +50,8 @@ fn take_pass<D: Disk + Drop, C: Clock>(
     ensures fault { IfErr result (λ why. LeadsSealed D.stands_for server.old.served.node server.new.served.node (BreaksPass server.old.served.node.cluster server.old.served.node.me why) ⊎ LosesPass D.stands_for server.old.served.node server.new.served.node why) }
     ensures ends { IfErr result EndsLaps }
     ensures whose { StaysWhose server.old.served.node server.new.served.node }
-    ensures counts { CountsNone result (failures D.failed server.old.served.node) (failures D.failed server.new.served.node) }
+    ensures counts { CountsNone result (failures D.failed server.old.served.node)
+        (failures D.failed server.new.served.node) }
 {
     let now = shell.now(clock);
     let heard = shell.take_in(&mut server.mail, &mut server.seats, now)?;
@@ -76,10 +78,13 @@ pub(crate) fn take_passes<D: Disk + Drop, R: Files<File = File> + Clock, E: Writ
     options: &ServeOptions<'_>,
 ) -> Result<(), ServerFault>
     ensures ok { OnOk result (Led D.stands_for server.old.served.node server.new.served.node (TakesPasses server.old.served.node.cluster server.old.served.node.me count server.new.served.node.releases)) }
-    ensures fault { IfErr result (λ why. Led D.stands_for server.old.served.node server.new.served.node (BreaksPasses server.old.served.node.cluster server.old.served.node.me count why) ⊎ LosesPasses D.stands_for server.old.served.node server.new.served.node count why) }
+    ensures fault { IfErr result (λ why. Led D.stands_for server.old.served.node server.new.served.node
+        (BreaksPasses server.old.served.node.cluster server.old.served.node.me count why)
+        ⊎ LosesPasses D.stands_for server.old.served.node server.new.served.node count why) }
     ensures ends { IfErr result EndsLaps }
     ensures whose { StaysWhose server.old.served.node server.new.served.node }
-    ensures counts { CountsNone result (failures D.failed server.old.served.node) (failures D.failed server.new.served.node) }
+    ensures counts { CountsNone result (failures D.failed server.old.served.node)
+        (failures D.failed server.new.served.node) }
     ensures noted { HasNoted options.now.verbose (end_of E.contents err.old err.new) }
 {
     for _ in 0..count {

@@ -104,7 +104,8 @@ impl<D: Disk + Drop, S: Drop> Server<D, S> {
     /// posted.
     fn take_batch(&mut self, now: u64) -> Result<Batched, ServerFault>
         ensures ok { IfOk result (λ batched. (last : LastCall)
-            × IsBatchOf D.stands_for last (waiting_of self.old.mail) batched.malformed (posted_of self.new.mail) self.old.served.node self.new.served.node
+            × IsBatchOf D.stands_for last (waiting_of self.old.mail) batched.malformed
+            (posted_of self.new.mail) self.old.served.node self.new.served.node
             × Paces self.old.served.node self.old.mail now last self.old.pace self.new.pace) }
         ensures heard { IfOk result (λ batched.
             AreSenders self.old.served.node.cluster (waiting_of self.old.mail) batched.heard) }
@@ -116,12 +117,14 @@ impl<D: Disk + Drop, S: Drop> Server<D, S> {
         ensures returning { self.new.returning ≡ self.old.returning }
         ensures me { self.new.me ≡ self.old.me }
         ensures fault { IfErr result (λ why. LeadsSealed D.stands_for self.old.served.node self.new.served.node (BreaksStep self.old.served.node.cluster self.old.served.node.me (waiting_of self.old.mail) why)
-            ⊎ LosesStep D.stands_for (waiting_of self.old.mail) self.old.served.node self.new.served.node why) }
+            ⊎ LosesStep D.stands_for
+            (waiting_of self.old.mail) self.old.served.node self.new.served.node why) }
         ensures may_send { IfErr result (λ why.
             MaySend D.stands_for (waiting_of self.old.mail) (posted_of self.new.mail) why self.old.served.node) }
         ensures ends { IfErr result EndsLaps }
         ensures whose { StaysWhose self.old.served.node self.new.served.node }
-        ensures counts { CountsNone result (failures D.failed self.old.served.node) (failures D.failed self.new.served.node) }
+        ensures counts { CountsNone result (failures D.failed self.old.served.node)
+            (failures D.failed self.new.served.node) }
     {
         let drained = self.mail.has_room();
         let last = self.pace.due(now, &self.served.node, drained);
@@ -151,14 +154,18 @@ impl<D: Disk + Drop, S: Drop> Server<D, S> {
     /// are answered, except those that are left. While the server is coming back, all are left.
     pub fn step(&mut self, now: u64) -> Result<Stepped, ServerFault>
         ensures clients { IfOk result (λ stepped. (mid : Served D) × (last : LastCall)
-            × IsBatchOf D.stands_for last (waiting_of self.old.mail) stepped.malformed (posted_of self.new.mail) self.old.served.node mid.node
+            × IsBatchOf D.stands_for last (waiting_of self.old.mail) stepped.malformed
+            (posted_of self.new.mail) self.old.served.node mid.node
             × Paces self.old.served.node self.old.mail now last self.old.pace self.new.pace
             × AnswersOrLeaves self.old.returning now self.old.seats.times mid self.new.served self.old.seats.seats.items self.new.seats.seats.items) }
         ensures heard { IfOk result (λ stepped.
             AreSenders self.old.served.node.cluster (waiting_of self.old.mail) stepped.heard) }
         ensures came { IfOk result (λ stepped. IsFalse stepped.came ↔ (waiting_of self.old.mail ≡ [])) }
-        ensures answered { IfOk result (λ stepped. TellsAnswered stepped.answered (length self.old.seats.seats.items) self.old.seats.seats.items self.new.seats.seats.items) }
-        ensures ok { OnOk result (LeadsSealed D.stands_for self.old.served.node self.new.served.node (TakesStep self.old.served.node.cluster self.old.served.node.me (waiting_of self.old.mail) (posted_of self.new.mail) self.new.served.node.releases)) }
+        ensures answered { IfOk result (λ stepped. TellsAnswered stepped.answered
+            (length self.old.seats.seats.items) self.old.seats.seats.items self.new.seats.seats.items) }
+        ensures ok { OnOk result (LeadsSealed D.stands_for self.old.served.node self.new.served.node
+            (TakesStep self.old.served.node.cluster self.old.served.node.me (waiting_of self.old.mail)
+            (posted_of self.new.mail) self.new.served.node.releases)) }
         ensures own { OnOk result (waiting_of self.new.mail ≡ own_of self.old.me (posted_of self.new.mail)) }
         ensures room { OnOk result (self.new.mail.bytes ≡ 0) }
         ensures peers { (self.new.mail.peers ≡ self.old.mail.peers)
@@ -166,12 +173,14 @@ impl<D: Disk + Drop, S: Drop> Server<D, S> {
         ensures same { (self.new.me ≡ self.old.me) × (self.new.returning ≡ self.old.returning)
             × (self.new.seats.times ≡ self.old.seats.times) }
         ensures fault { IfErr result (λ why. LeadsSealed D.stands_for self.old.served.node self.new.served.node (BreaksStep self.old.served.node.cluster self.old.served.node.me (waiting_of self.old.mail) why)
-            ⊎ LosesStep D.stands_for (waiting_of self.old.mail) self.old.served.node self.new.served.node why) }
+            ⊎ LosesStep D.stands_for
+            (waiting_of self.old.mail) self.old.served.node self.new.served.node why) }
         ensures may_send { IfErr result (λ why.
             MaySend D.stands_for (waiting_of self.old.mail) (posted_of self.new.mail) why self.old.served.node) }
         ensures ends { IfErr result EndsLaps }
         ensures whose { StaysWhose self.old.served.node self.new.served.node }
-        ensures counts { CountsNone result (failures D.failed self.old.served.node) (failures D.failed self.new.served.node) }
+        ensures counts { CountsNone result (failures D.failed self.old.served.node)
+            (failures D.failed self.new.served.node) }
     {
         let came = !self.mail.is_empty();
         let batched = self.take_batch(now)?;

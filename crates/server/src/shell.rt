@@ -4,7 +4,8 @@
 //! What it sends a node in a pass goes as packets (`server_packets`), if that node reads them (`Peers`): each
 //! call that sends costs some microseconds, as much as a message.
 //!
-//! A rest of 10 ms or more waits for a datagram and ends with it; a shorter one sleeps, as the system counts such waits in steps of some milliseconds.
+//! A rest of 10 ms or more waits for a datagram and ends with it; a shorter one sleeps, as the system counts
+//! such waits in steps of some milliseconds.
 
 use crate::addresses::Addresses;
 use crate::mail::Mail;
@@ -279,8 +280,8 @@ impl Shell {
         }
     }
 
-    /// Parts with the clients that leave: whether anything came of one that left. None leaves while their requests are left, as
-    /// they wait longer then than a request may.
+    /// Parts with the clients that leave: whether anything came of one that left. None leaves while their
+    /// requests are left, as they wait longer then than a request may.
     pub(crate) fn part(&mut self, seats: &mut Seats<TcpStream>, now: u64, left: bool) -> bool {
         if !left {
             self.part_each(seats, now);

@@ -10,8 +10,8 @@ use server_notes::{Figures, Note, Notes};
 #[derive(Drop)]
 pub(crate) struct Watch {
     notes: Notes,
-    // the moment of the last pass, in milliseconds since the server began, and how many values were known and which
-    // release was the newest after it
+    // the moment of the last pass, in milliseconds since the server began, and how many values were known and
+    // which release was the newest after it
     now: u64,
     known: u32,
     newest: u64,
@@ -42,8 +42,8 @@ impl Watch {
         self.full = true;
     }
 
-    /// The pass is over, whose step saw this. `known` values are known, values up to `reached` were heard of, and
-    /// `newest` is the newest release.
+    /// The pass is over, whose step saw this. `known` values are known, values up to `reached` were heard of,
+    /// and `newest` is the newest release.
     pub(crate) fn pass(
         &mut self,
         now: u64,

@@ -1,5 +1,5 @@
--- A stream that has its last response: what its client still sends is read and dropped, until it closes. Moments
--- are milliseconds since the server began.
+-- A stream that has its last response: what its client still sends is read and dropped, until it closes.
+-- Moments are milliseconds since the server began.
 use Rattle.std.specs.Prelude.{◌≡◌, ◌≢◌, ◌⊎◌, ◌<◌, ◌≤◌, ◌+◌, ◌-◌, ◌^◌, ◌||◌, ℕ, zero, suc, min, Bool, true}
 use Rattle.std.specs.Prelude.{false, nat_le, nat_lt, List, [], ◌∷◌, ◌++◌, length, Option, Some, None}
 use Rattle.std.specs.Io.KnownBytes.{Consumes, IsAtEnd, Keeps}

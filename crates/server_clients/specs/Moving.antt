@@ -1,6 +1,7 @@
 -- Clients' bytes: what one reading and one writing do to a seat, and to all of them. Moments are milliseconds
 -- since the server began.
-use Rattle.std.specs.Prelude.{◌≡◌, ◌⊎◌, ◌<◌, ◌≤◌, ◌-◌, ℕ, Bool, true, false, List, length, get_or, Option, Some}
+use Rattle.std.specs.Prelude.{◌≡◌, ◌⊎◌, ◌<◌, ◌≤◌, ◌-◌, ℕ, Bool, true, false, List, length, get_or, Option}
+use Rattle.std.specs.Prelude.{Some}
 use Rattle.std.specs.Prelude.{None, unwrap_or}
 use Rattle.http_read.specs.Bytes.{end_of}
 use Rattle.http_serve.specs.ConnectionSteps.{owed, IsIdle, MayRead, Reads, Writes}
@@ -55,8 +56,8 @@ TimesWritten write_outcome.Written now old new = (new.moved ≡ now) × (new.cam
     × (length (owed new.connection) ≡ 0 → ¬ (IsIdle new.connection) → new.begun ≡ Some now)
 TimesWritten _ now old new = SameTimes old new
 
--- What its connection owes is held back: the next request is there whole and asks for a receipt, and its client
--- sent the last bytes not long ago. A step answers each such request unless it is left, so it is left
+-- What its connection owes is held back: the next request is there whole and asks for a receipt, and its
+-- client sent the last bytes not long ago. A step answers each such request unless it is left, so it is left
 pub record IsHeld {T : Type 0} (times : Times) (now : ℕ) (seat : Seat T) : Type 0 where
   pub asks : HasAsked seat.connection
   pub soon : now - seat.came < times.holds

@@ -1,4 +1,5 @@
--- A node as a service: its pages and receipts are those of what it has published, and a submission is one of its calls.
+-- A node as a service: its pages and receipts are those of what it has published, and a submission is one of
+-- its calls.
 use Rattle.std.specs.Prelude.{◌≡◌, ℕ, ◌≤◌, List, [], Ok, Err}
 use Rattle.command.specs.Effective.{effective}
 use Rattle.command.specs.Releases.{release_count}

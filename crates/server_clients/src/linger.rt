@@ -20,7 +20,8 @@ pub struct Linger {
 }
 
 impl Linger {
-    /// Whether it is closed, though its client did not close it: its time has passed, or its client sent too much.
+    /// Whether it is closed, though its client did not close it: its time has passed, or its client sent too
+    /// much.
     pub fn is_over(self, times: Times) -> bool
         ensures { result ≡ is_over times self }
     {

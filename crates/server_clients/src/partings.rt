@@ -70,7 +70,8 @@ impl<S: Drop> Partings<S> {
 
     /// Closes those that leave.
     fn close(&mut self, now: u64)
-        ensures stay { self.new.partings.items ≡ filter (λ p. not (leaves self.old.times now p)) self.old.partings.items }
+        ensures stay { self.new.partings.items
+            ≡ filter (λ p. not (leaves self.old.times now p)) self.old.partings.items }
         ensures same { self.new.times ≡ self.old.times }
     {
         let times = self.times;
@@ -99,7 +100,8 @@ impl<S: Read + Drop> Partings<S> {
     /// others keep their order.
     pub fn read_each(&mut self, now: u64) -> bool
         ensures read { (read : List (Parting S))
-            × AreDone (IsDropped S.remaining) (length self.old.partings.items) result self.old.partings.items read
+            × AreDone (IsDropped S.remaining)
+            (length self.old.partings.items) result self.old.partings.items read
             × (self.new.partings.items ≡ filter (λ p. not (leaves self.old.times now p)) read) }
         ensures same { self.new.times ≡ self.old.times }
     {

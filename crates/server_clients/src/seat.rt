@@ -19,7 +19,8 @@ use site_disk::Disk;
 use std::alloc::{AllocError, Global};
 use std::io::{Read, Write};
 
-/// A connection and its stream: who gives one away gives the other. Times are milliseconds since the server began.
+/// A connection and its stream: who gives one away gives the other. Times are milliseconds since the server
+/// began.
 #[derive(Drop)]
 pub struct Seat<S> {
     stream: Counted<S>,
@@ -120,8 +121,8 @@ impl<S> Seat<S> {
         self.connection.advance(alloc, served, spans)
     }
 
-    /// Takes its turn: its requests are answered, until one is left, or no whole one is there, or 16 KB wait to
-    /// be written. Returns whether one was answered.
+    /// Takes its turn: its requests are answered, until one is left, or no whole one is there, or 16 KB wait
+    /// to be written. Returns whether one was answered.
     pub(crate) fn answer<D: Disk>(
         &mut self,
         alloc: Global,

@@ -72,7 +72,8 @@ impl<S: Drop> Seats<S> {
 
     /// Of the clients that may go for another one, the seat of the one that was silent longest.
     fn first_to_go(&self, now: u64) -> Option<usize>
-        ensures { MatchOption result (NoneGoes self.now.times now self.now.seats.items) (IsFirstToGo self.now.times now self.now.seats.items) }
+        ensures { MatchOption result (NoneGoes self.now.times now self.now.seats.items)
+            (IsFirstToGo self.now.times now self.now.seats.items) }
     {
         let mut first = None;
         let mut i = 0;
@@ -145,7 +146,8 @@ impl<S: Drop> Seats<S> {
     ) -> Result<bool, AllocError>
         ensures same { (self.new.times ≡ self.old.times) × (self.new.alloc ≡ self.old.alloc) }
         ensures each { OnOk result (AreAnswered offered self.old.times now served.old served.new self.old.seats.items self.new.seats.items) }
-        ensures tells { IfOk result (λ answered. TellsAnswered answered (length self.old.seats.items) self.old.seats.items self.new.seats.items) }
+        ensures tells { IfOk result (λ answered. TellsAnswered answered
+            (length self.old.seats.items) self.old.seats.items self.new.seats.items) }
         ensures taken { (n : ℕ) × (n ≤ 6400) × MaySubmitMany offered n served.old served.new }
     {
         let times = self.times;
@@ -182,7 +184,8 @@ impl<S: Read + Drop> Seats<S> {
 }
 
 impl<S: Write + Drop> Seats<S> {
-    /// Writes once to each client that is owed something that is not held back. Returns whether anything went.
+    /// Writes once to each client that is owed something that is not held back. Returns whether anything
+    /// went.
     pub fn write_each(&mut self, now: u64) -> bool
         ensures written { AreDone (IsWrittenOnce S.contents self.old.times now)
             (length self.old.seats.items) result self.old.seats.items self.new.seats.items }

@@ -23,7 +23,9 @@ why_line what which cause = what ++ (which ++ (codes ": " ++ (cause ++ codes "\n
 
 -- the line of a record that is damaged from a byte on
 abbrev pub damaged_line : List ℕ → ℕ → List ℕ
-damaged_line path at = codes "record " ++ (path ++ (codes ": it has bytes that no node wrote, from byte " ++ (decimal at ++ codes " on\n")))
+damaged_line path at =
+    codes "record " ++ (path
+    ++ (codes ": it has bytes that no node wrote, from byte " ++ (decimal at ++ codes " on\n")))
 
 -- the line was given, or, if an allocation failed, nothing
 abbrev pub GivesLine : End → List ℕ → Type 0

@@ -17,7 +17,8 @@ has_vote entries i = is_some (last_vote i entries)
 abbrev pub has_learned : List Entry → ℕ → Bool
 has_learned entries i = is_some (learned_at i entries)
 
--- At how many instances there is a vote, at how many a learned value, and the last instance that has either; the floor, and how far the entries reach
+-- At how many instances there is a vote, at how many a learned value, and the last instance that has either;
+-- the floor, and how far the entries reach
 pub record IsViewOf (entries : List Entry) (view : View) : Type 0 where
   pub votes : view.votes ≡ count_to (has_vote entries) MAX_INSTANCE
   pub learned : view.learned ≡ count_to (has_learned entries) MAX_INSTANCE
@@ -29,8 +30,8 @@ pub record IsViewOf (entries : List Entry) (view : View) : Type 0 where
 abbrev pub Names : ℕ → ℕ → List ℕ → Type 0
 Names p n file = (slice_index file 8 ≡ p) × (slice_index file 9 ≡ n)
 
--- An opening by the node and the group that the head names is refused so. If it names no node of a group, the record is another node's to each.
--- A record whose last gate an accident shut is damaged too
+-- An opening by the node and the group that the head names is refused so. If it names no node of a group, the
+-- record is another node's to each. A record whose last gate an accident shut is damaged too
 abbrev pub IsRefused : RecordFault → List ℕ → Type 0
 IsRefused Damaged file = IsRefusal Damaged (slice_index file 8) (slice_index file 9) file
     ⊎ ((gate : ℕ) × IsCutAt (slice_index file 8) (slice_index file 9) gate file)
@@ -46,7 +47,10 @@ whose_lines v = codes "node: " ++ (decimal v.node ++ (codes "\nnodes: " ++ (deci
 
 -- what it has over all instances
 abbrev pub counted_lines : View → List ℕ
-counted_lines v = codes "votes: " ++ (decimal v.votes ++ (codes "\nlearned: " ++ (decimal v.learned ++ (codes "\nlast instance: " ++ (decimal v.last ++ codes "\n")))))
+counted_lines v =
+    codes "votes: " ++ (decimal v.votes
+    ++ (codes "\nlearned: "
+    ++ (decimal v.learned ++ (codes "\nlast instance: " ++ (decimal v.last ++ codes "\n")))))
 
 -- its floor, if it has one
 abbrev pub floor_line : ℕ → List ℕ

@@ -41,8 +41,10 @@ fn last_of(last: u32, number: u32, is: bool) -> u32
 /// What it has at the first `instances` instances.
 pub(crate) fn count<D: Disk>(opened: &Record<D>, instances: u32) -> Counts
     requires { instances ≤ MAX_INSTANCE }
-    ensures votes { result.votes ≡ count_to (λ i. is_some (slot_at opened.now.recorded.slots i).vote) instances }
-    ensures learned { result.learned ≡ count_to (λ i. is_some (value_at opened.now.recorded.slots i)) instances }
+    ensures votes { result.votes ≡ count_to
+        (λ i. is_some (slot_at opened.now.recorded.slots i).vote) instances }
+    ensures learned { result.learned ≡ count_to
+        (λ i. is_some (value_at opened.now.recorded.slots i)) instances }
     ensures last { result.last ≡ last_to (λ i. is_some (slot_at opened.now.recorded.slots i).vote
         || is_some (value_at opened.now.recorded.slots i)) instances }
 {

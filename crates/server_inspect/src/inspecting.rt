@@ -41,7 +41,8 @@ fn open<R: Files<File = File>>(
     }
 }
 
-/// Why a record is refused: the end of its file, if that was seen, and the byte from which on it is damaged, if that was found.
+/// Why a record is refused: the end of its file, if that was seen, and the byte from which on it is damaged,
+/// if that was found.
 #[derive(Clone, Copy, Drop)]
 struct Refusal {
     fault: RecordFault,
@@ -162,7 +163,8 @@ pub fn inspect<R: Files<File = File>, W: Write, E: Write>(
     err: &mut Counted<E>,
     path: &str,
 ) -> u8
-    ensures { HasInspected (end_of W.contents out.old out.new) (end_of E.contents err.old err.new) path.now result }
+    ensures { HasInspected (end_of W.contents out.old out.new)
+        (end_of E.contents err.old err.new) path.now result }
 {
     let mut cause = Cause::none();
     match look_again(rt, alloc, path, &mut cause) {

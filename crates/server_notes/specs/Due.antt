@@ -1,10 +1,12 @@
 -- What a server has to say, and what it may say. Moments are milliseconds since it began.
-use Rattle.std.specs.Prelude.{◌≡◌, ℕ, ◌-◌, ◌/◌, ◌<◌, List, [], ◌∷◌, replicate, get_or, set, Bool, true, false, nat_eq, nat_le, if◌then◌else◌, Option, Some, None}
+use Rattle.std.specs.Prelude.{◌≡◌, ℕ, ◌-◌, ◌/◌, ◌<◌, List, [], ◌∷◌, replicate, get_or, set, Bool, true, false}
+use Rattle.std.specs.Prelude.{nat_eq, nat_le, if◌then◌else◌, Option, Some, None}
 use Rattle.server_notes.specs.Listening.{first_listening, silence_at, FindsSilent, FindsEnded}
 use Rattle.server_notes.specs.Hours.{no_hour, hour_after, figures_note}
 use Rattle.server_notes.specs.Muteness.{first_muteness, mute_note, ended_note}
 use Rattle.server_notes.specs.Publishing.{nothing_said, began_note, release_note}
-use Rattle.server_notes.specs.Noting.{silence_of, told_at, ended_told, joined_at, learned_at, has_settled, is_long}
+use Rattle.server_notes.specs.Noting.{silence_of, told_at, ended_told, joined_at, learned_at, has_settled}
+use Rattle.server_notes.specs.Noting.{is_long}
 use Rattle.server_notes.specs.declared.catching.Catching.{Catching}
 use Rattle.server_notes.specs.declared.catching.Catching.TheVariants.{Done, Alone}
 use Rattle.server_notes.specs.declared.muteness.Muteness.TheVariants.{Over, Said}
@@ -27,9 +29,11 @@ first_notes n me votes floor = record {
   said = replicate 14 None;
 }
 
--- where it stands once that many values are known, values up to `reached` were heard of, and a majority is heard or not
+-- where it stands once that many values are known, values up to `reached` were heard of, and a majority is
+-- heard or not
 abbrev pub following : Catching → Bool → ℕ → ℕ → ℕ → Catching
-following c majority now known reached = learned_at (if majority then joined_at c now known reached else c) now known reached
+following c majority now known reached =
+    learned_at (if majority then joined_at c now known reached else c) now known reached
 
 abbrev pub due_if : Bool → Note → Option Note
 due_if is note = if is then Some note else None
@@ -87,18 +91,34 @@ settled n now (note.Mute instance) = record n { muteness = Said instance }
 settled n now note.NoLongerMute = record n { muteness = Over }
 settled n now (note.CaughtUp instance) = record n { catching = Done }
 settled n now (note.NoMajority seconds) = record n { catching = Alone; listening = record n.listening { majority = told_at n.listening.majority now } }
-settled n now (note.Majority seconds) = record n { listening = record n.listening { majority = ended_told n.listening.majority } }
-settled n now (note.Silent p seconds) = record n { listening = record n.listening { silences = set n.listening.silences (p - 1) (told_at (silence_at n.listening.silences (p - 1)) now) } }
-settled n now (note.Heard p seconds) = record n { listening = record n.listening { silences = set n.listening.silences (p - 1) (ended_told (silence_at n.listening.silences (p - 1))) } }
+settled n now (note.Majority seconds) =
+    record n { listening = record n.listening { majority = ended_told n.listening.majority } }
+settled n now (note.Silent p seconds) =
+    record n {
+      listening = record n.listening {
+        silences = set n.listening.silences (p - 1)
+            (told_at (silence_at n.listening.silences (p - 1)) now);
+      };
+    }
+settled n now (note.Heard p seconds) =
+    record n {
+      listening = record n.listening {
+        silences = set n.listening.silences (p - 1)
+            (ended_told (silence_at n.listening.silences (p - 1)));
+      };
+    }
 settled n now (note.Malformed count) = record n { malformed = 0 }
 settled n now (note.Displaced count) = record n { displaced = 0 }
 settled n now note.Full = record n { full = false }
-settled n now (note.Published release instance) = record n { publishing = record { release = release; known = instance; began = false } }
+settled n now (note.Published release instance) =
+    record n { publishing = record { release = release; known = instance; began = false } }
 settled n now (note.Began instance) = record n { publishing = record n.publishing { began = true } }
 settled n now (note.Figures instance release bytes memory) = record n { hours = hour_after now }
 
--- this is the first that is due and may be said; then a second goes by before a line of its kind is said again
-pub record IsNext (old : Notes) (now : ℕ) (due : List (Option Note)) (note : Note) (new : Notes) : Type 0 where
+-- this is the first that is due and may be said; then a second goes by before a line of its kind is said
+-- again
+pub record IsNext (old : Notes) (now : ℕ) (due : List (Option Note)) (note : Note)
+    (new : Notes) : Type 0 where
   pub kind : ℕ
   pub below : kind < 14
   pub is : may_say old.said now due kind ≡ Some note

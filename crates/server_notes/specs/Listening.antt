@@ -1,5 +1,6 @@
 -- Whom a server hears. Node p has the place p - 1 of nine.
-use Rattle.std.specs.Prelude.{◌≡◌, ◌≢◌, ℕ, ◌+◌, ◌-◌, ◌/◌, ◌<◌, ◌≤◌, List, replicate, get_or, Bool, true, false, IsTrue, ◌↔◌, Option, Some, None, if◌then◌else◌}
+use Rattle.std.specs.Prelude.{◌≡◌, ◌≢◌, ℕ, ◌+◌, ◌-◌, ◌/◌, ◌<◌, ◌≤◌, List, replicate, get_or, Bool, true}
+use Rattle.std.specs.Prelude.{false, IsTrue, ◌↔◌, Option, Some, None, if◌then◌else◌}
 use Rattle.site_ids.specs.Ids.{IsNode}
 use Rattle.site_ids.specs.NodeSets.{no_nodes, with_node, count_of, AreUnited}
 use Rattle.server_notes.specs.Noting.{no_silence, heard_at, silence_of, is_long}
@@ -20,10 +21,13 @@ silence_at silences i = get_or silences i no_silence
 -- the silences of those that are heard end, the others' go on
 abbrev pub AreHeard : List Silence → List Bool → ℕ → List Silence → Type 0
 AreHeard old heard now new =
-    (i : ℕ) → i < 9 → silence_at new i ≡ (if get_or heard i false then heard_at (silence_at old i) now else silence_at old i)
+    (i : ℕ) → i < 9 → silence_at new i
+    ≡ (if get_or heard i false then heard_at (silence_at old i) now else silence_at old i)
 
--- A server of n hears a majority each time that more than half of the nodes were heard since it did last, itself included
-pub record Hears (old : Listening) (now : ℕ) (heard : List Bool) (majority : Bool) (new : Listening) : Type 0 where
+-- A server of n hears a majority each time that more than half of the nodes were heard since it did last,
+-- itself included
+pub record Hears (old : Listening) (now : ℕ) (heard : List Bool) (majority : Bool)
+    (new : Listening) : Type 0 where
   pub silences : AreHeard old.silences (heard_by old.me heard) now new.silences
   pub all : List Bool
   pub gathered : AreUnited (heard_by old.me heard) old.gathered all

@@ -16,7 +16,8 @@ silence_of s now = now - s.heard
 
 -- a silence that was reported has ended
 abbrev pub heard_at : Silence → ℕ → Silence
-heard_at s now = record { heard = now; told = 0; ended = if nat_eq s.told 0 then s.ended else silence_of s now }
+heard_at s now =
+    record { heard = now; told = 0; ended = if nat_eq s.told 0 then s.ended else silence_of s now }
 
 -- five seconds, and twice as long as the length that was reported last
 abbrev pub is_long : Silence → ℕ → Bool
@@ -34,14 +35,17 @@ abbrev pub joined_at : Catching → ℕ → ℕ → ℕ → Catching
 joined_at Alone now known reached = Since now known reached
 joined_at c now known reached = c
 
--- The time begins anew with each 64 values that became known; and where it has passed, and what was heard of in its first part is not known
+-- The time begins anew with each 64 values that became known; and where it has passed, and what was heard of
+-- in its first part is not known
 abbrev pub learned_at : Catching → ℕ → ℕ → ℕ → Catching
 learned_at (Since at before reach) now known reached =
-    if nat_le MANY (known - before) || (nat_le SETTLING (now - at) && nat_lt known reach) then Since now known reached
+    if nat_le MANY (known - before)
+    || (nat_le SETTLING (now - at) && nat_lt known reach) then Since now known reached
     else Since at before (if nat_lt (now - at) HEARING then reached else reach)
 learned_at c now known reached = c
 
--- for two seconds it hears a majority, and fewer than 64 values became known; and those up to the furthest that it heard of in their first part are
+-- for two seconds it hears a majority, and fewer than 64 values became known; and those up to the furthest
+-- that it heard of in their first part are
 abbrev pub has_settled : Catching → ℕ → ℕ → Bool
 has_settled (Since at before reach) now known = nat_le SETTLING (now - at) && nat_le reach known
 has_settled c now known = false

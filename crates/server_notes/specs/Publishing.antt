@@ -13,4 +13,6 @@ release_note p known newest = if nat_lt p.release newest then Some (note.Publish
 
 -- no newer one is, more is known than was then, and that was not said
 abbrev pub began_note : Publishing → ℕ → ℕ → Option Note
-began_note p known newest = if nat_le newest p.release && nat_lt p.known known && not p.began then Some (note.Began (p.known + 1)) else None
+began_note p known newest =
+    if nat_le newest p.release && nat_lt p.known known
+    && not p.began then Some (note.Began (p.known + 1)) else None

@@ -6,8 +6,8 @@ ghost use Rattle.server_notes.specs.Noting.{joined_at, learned_at, has_settled};
 /// Milliseconds in which few values become known once a server has caught up.
 const SETTLING: u64 = 2000;
 
-/// What is heard of in the first that many of them is to be known by their end, which is enough for a question and its
-/// answer. What is heard of later may be tried just then.
+/// What is heard of in the first that many of them is to be known by their end, which is enough for a
+/// question and its answer. What is heard of later may be tried just then.
 const HEARING: u64 = 1500;
 
 /// This many values in that time are not few: one whole telling of another node.
@@ -20,8 +20,8 @@ pub enum Catching {
     Done,
     /// It hears no majority.
     Alone,
-    /// It hears a majority, and few values became known since the moment `at`, in milliseconds since it began. `known`
-    /// values were known then, and values up to `reach` were heard of.
+    /// It hears a majority, and few values became known since the moment `at`, in milliseconds since it
+    /// began. `known` values were known then, and values up to `reach` were heard of.
     Since { at: u64, known: u32, reach: u32 },
 }
 

@@ -1,4 +1,5 @@
-//! What a server says to who runs it, and when, by a moment in milliseconds: data and pure functions, without a clock.
+//! What a server says to who runs it, and when, by a moment in milliseconds: data and pure functions, without
+//! a clock.
 #![tactic(auto)]
 
 mod catching;

@@ -2,14 +2,15 @@
 
 ghost use Rattle.std.specs.Prelude.{◌≡◌, ◌-◌, set};
 ghost use Rattle.site_ids.specs.NodeSets.{with_node};
-ghost use Rattle.server_notes.specs.Listening.{first_listening, silence_at, AreHeard, FindsEnded, FindsSilent, Hears};
+ghost use Rattle.server_notes.specs.Listening.{first_listening, silence_at, AreHeard, FindsEnded};
+ghost use Rattle.server_notes.specs.Listening.{FindsSilent, Hears};
 ghost use Rattle.server_notes.specs.Noting.{told_at, ended_told};
 
 use crate::silence::Silence;
 use site_ids::{Cluster, NodeId, NodeSet};
 
-/// How long each node was not heard, and a majority. A majority is heard each time that as many different nodes were. A
-/// server hears itself.
+/// How long each node was not heard, and a majority. A majority is heard each time that as many different
+/// nodes were. A server hears itself.
 #[derive(Clone, Copy, Drop)]
 pub struct Listening {
     cluster: Cluster,
@@ -99,7 +100,10 @@ impl Listening {
 
     /// The silence of that node was reported.
     pub(crate) fn tell_silent(&mut self, node: NodeId, now: u64)
-        ensures { self.new ≡ record self.old { silences = set self.old.silences (node - 1) (told_at (silence_at self.old.silences (node - 1)) now) } }
+        ensures { self.new ≡ record self.old {
+          silences = set self.old.silences (node - 1)
+              (told_at (silence_at self.old.silences (node - 1)) now);
+        } }
     {
         let at = usize::from(node.number()) - 1;
         self.silences[at] = self.silences[at].told(now);
@@ -107,7 +111,10 @@ impl Listening {
 
     /// The end of that node's silence was reported.
     pub(crate) fn tell_ended(&mut self, node: NodeId)
-        ensures { self.new ≡ record self.old { silences = set self.old.silences (node - 1) (ended_told (silence_at self.old.silences (node - 1))) } }
+        ensures { self.new ≡ record self.old {
+          silences = set self.old.silences (node - 1)
+              (ended_told (silence_at self.old.silences (node - 1)));
+        } }
     {
         let at = usize::from(node.number()) - 1;
         self.silences[at] = self.silences[at].ended_told();

@@ -5,7 +5,8 @@ ghost use Rattle.server_notes.specs.Muteness.{first_muteness, mute_note, ended_n
 
 use crate::note::Note;
 
-/// Of a node whose record took the place of a lost one: until it knows all values up to its floor it promises and votes for nothing there, and tries nothing.
+/// Of a node whose record took the place of a lost one: until it knows all values up to its floor it promises
+/// and votes for nothing there, and tries nothing.
 #[derive(Clone, Copy, Drop)]
 pub enum Muteness {
     /// It has no floor, or its end was said.

@@ -10,7 +10,8 @@ pub enum Note {
     Opened {
         votes: u32,
     },
-    /// Its record took the place of a lost one: it promises and votes for nothing up to this instance, and tries nothing before it knows that far.
+    /// Its record took the place of a lost one: it promises and votes for nothing up to this instance, and
+    /// tries nothing before it knows that far.
     Mute {
         instance: u32,
     },
@@ -54,11 +55,13 @@ pub enum Note {
         release: u64,
         instance: u32,
     },
-    /// The value of this instance is known, the first that became known after the newest release was reported.
+    /// The value of this instance is known, the first that became known after the newest release was
+    /// reported.
     Began {
         instance: u32,
     },
-    /// Each hour: how far it knows, its newest release, how many bytes its record has, and how many of memory it takes.
+    /// Each hour: how far it knows, its newest release, how many bytes its record has, and how many of memory
+    /// it takes.
     Figures {
         instance: u32,
         release: u64,

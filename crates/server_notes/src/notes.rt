@@ -3,7 +3,8 @@
 //! Kinds have an order, and each its second, so that a flood of one keeps no other from being said.
 
 ghost use Rattle.std.specs.Prelude.{◌≡◌, ◌+◌, ◌^◌, ◌-◌, min, Bool, None, Some, if◌then◌else◌, ◌||◌};
-ghost use Rattle.server_notes.specs.Due.{counted, due_if, due_notes, first_notes, following, heard_of, is_free, opened_of, settled, silent_of, Says, SaysOf};
+ghost use Rattle.server_notes.specs.Due.{counted, due_if, due_notes, first_notes, following, heard_of};
+ghost use Rattle.server_notes.specs.Due.{is_free, opened_of, settled, silent_of, Says, SaysOf};
 ghost use Rattle.server_notes.specs.Hours.{is_hour};
 ghost use Rattle.server_notes.specs.Listening.{Hears};
 
@@ -18,8 +19,8 @@ use site_ids::{Cluster, NodeId, NodeSet};
 /// Milliseconds between two lines of one kind, at least.
 pub const EACH: u64 = 1000;
 
-/// What a server heard of whom, what it counted, what it said last, and when. Moments are milliseconds since it began,
-/// none of them less than the one before.
+/// What a server heard of whom, what it counted, what it said last, and when. Moments are milliseconds since
+/// it began, none of them less than the one before.
 #[derive(Clone, Copy, Drop)]
 pub struct Notes {
     // of the record, until that is said
@@ -66,10 +67,16 @@ impl Notes {
         self.catching = self.catching.learned(now, known, reached);
     }
 
-    /// `malformed` datagrams spelled no message, and `displaced` connections were closed for further clients. `full` says
-    /// whether further clients found no place.
+    /// `malformed` datagrams spelled no message, and `displaced` connections were closed for further clients.
+    /// `full` says whether further clients found no place.
     pub fn count(&mut self, malformed: u64, displaced: u64, full: bool)
-        ensures { self.new ≡ record self.old { malformed = min (self.old.malformed + malformed) (2 ^ 64 - 1); displaced = min (self.old.displaced + displaced) (2 ^ 64 - 1); full = self.old.full || full } }
+        ensures { self.new ≡ record self.old {
+          malformed = min (self.old.malformed + malformed)
+              (2 ^ 64 - 1);
+          displaced = min (self.old.displaced + displaced) (2 ^ 64 - 1);
+          full = self.old.full
+              || full;
+        } }
     {
         self.malformed = self.malformed.saturating_add(malformed);
         self.displaced = self.displaced.saturating_add(displaced);
@@ -168,8 +175,8 @@ impl Notes {
         self.hours = self.hours.taken(figures);
     }
 
-    /// The next line, if one is due: at most one of each kind in a second. `known` values are known, and `newest` is the
-    /// newest release. A line that was said is no longer due.
+    /// The next line, if one is due: at most one of each kind in a second. `known` values are known, and
+    /// `newest` is the newest release. A line that was said is no longer due.
     pub fn next(&mut self, now: u64, known: u32, newest: u64) -> Option<Note>
         ensures { Says self.old now known newest result self.new }
     {

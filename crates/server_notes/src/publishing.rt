@@ -5,8 +5,8 @@ ghost use Rattle.server_notes.specs.Publishing.{nothing_said, began_note, releas
 
 use crate::note::Note;
 
-/// The newest release that was reported, how many values were known then, and whether it was reported that more became
-/// known since.
+/// The newest release that was reported, how many values were known then, and whether it was reported that
+/// more became known since.
 #[derive(Clone, Copy, Drop)]
 pub struct Publishing {
     release: u64,

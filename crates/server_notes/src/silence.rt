@@ -59,7 +59,8 @@ impl Silence {
         if heard { self.heard(now) } else { self }
     }
 
-    /// Whether its silence is due to be reported: after 5 seconds, and then each time that it is twice as long as last reported.
+    /// Whether its silence is due to be reported: after 5 seconds, and then each time that it is twice as
+    /// long as last reported.
     pub fn is_long(self, now: u64) -> bool
         ensures { result ≡ is_long self now }
     {

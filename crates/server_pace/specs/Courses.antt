@@ -40,9 +40,22 @@ moved_on times now i c = record c {
 -- was told may be on its way still; else it is told from there on again, and a quarter less may be on its way
 abbrev pub asked_again : Times → ℕ → ℕ → Course → Course
 asked_again times now i c =
-    let again = record c { first = i; next = max c.next i; repeats = min (c.repeats + 1) (2 ^ 32 - 1); at = now; asked = true } in
+    let again = record c {
+      first = i;
+      next = max c.next i;
+      repeats = min (c.repeats + 1)
+          (2 ^ 32 - 1);
+      at = now;
+      asked = true;
+    } in
     if nat_lt (flight_of c) (now - c.since)
-    then record again { next = i; budget = max (min (c.budget * 3) (2 ^ 32 - 1) / 4) times.least; since = now; back = true }
+    then record again {
+      next = i;
+      budget = max
+          (min (c.budget * 3) (2 ^ 32 - 1) / 4) times.least;
+      since = now;
+      back = true;
+    }
     else again
 
 -- it asked for instance i; a question for an earlier one comes late, or begins anew

@@ -16,7 +16,8 @@ abbrev pub IsKeepDue : Keeping → Times → ℕ → ℕ → Type 0
 IsKeepDue k times now known = (since : ℕ) × (k.since ≡ Some since)
     × ((times.keeping ≤ now - since) ⊎ (times.block ≤ known - k.kept))
 
--- from which instance on, and how many, are kept next: from the first that was not, as many as are known, a block at most
+-- from which instance on, and how many, are kept next: from the first that was not, as many as are known, a
+-- block at most
 abbrev pub IsNextBlock : Keeping → Times → ℕ → ℕ → Option (ℕ × ℕ) → Type 0
 IsNextBlock k times now known (Some x) = IsKeepDue k times now known × IsInstance (suc k.kept)
     × (x ≡ (suc k.kept, min (known - k.kept) times.block))

@@ -1,4 +1,5 @@
--- When a server tries again, asks and tells, and how long it rests. Times are milliseconds since it began, rests microseconds.
+-- When a server tries again, asks and tells, and how long it rests. Times are milliseconds since it began,
+-- rests microseconds.
 use Rattle.std.specs.Prelude.{◌≡◌, ◌≢◌, ◌⊎◌, ℕ, suc, ◌+◌, ◌-◌, ◌*◌, ◌/◌, ◌^◌, ◌<◌, ◌≤◌, min, max, List}
 use Rattle.std.specs.Prelude.{length, Bool, true, false, not, ◌||◌, ◌&&◌, nat_eq, nat_lt, Option, Some, None}
 use Rattle.std.specs.Prelude.{unwrap_or, IsSome, IsTrue, ◌↔◌, is_none, is_some, [], if◌then◌else◌}
@@ -31,9 +32,11 @@ use Rattle.server_times.specs.declared.times.Times.{Times}
 
 -- none was wanted
 abbrev pub first_ticking : Ticking
-first_ticking = record { since = None; first = None; known = 0; ticks = 0; longer = 0; at = None; resumes = false }
+first_ticking =
+    record { since = None; first = None; known = 0; ticks = 0; longer = 0; at = None; resumes = false }
 
--- a value was just submitted, and nobody tries one: a tick begins to be wanted, and the last batch stirred nothing
+-- a value was just submitted, and nobody tries one: a tick begins to be wanted, and the last batch stirred
+-- nothing
 abbrev pub IsFresh : Ticking → Bool → Bool → Type 0
 IsFresh t wanted stirred = (wanted ≡ true) × (t.since ≡ None) × (stirred ≡ false)
 
@@ -44,7 +47,8 @@ is_one_more (Some at) known = nat_eq known (min (at + 1) (2 ^ 32 - 1))
 
 -- a server without a stake leaves it to the others to decide, while their messages come: for so long
 abbrev pub leaves : Ticking → Times → ℕ → Seen → Bool → Bool
-leaves t times now seen stirred = not seen.stake && (stirred && nat_lt (now - unwrap_or t.first now) times.leaving)
+leaves t times now seen stirred =
+    not seen.stake && (stirred && nat_lt (now - unwrap_or t.first now) times.leaving)
 
 -- A tick is waited for since it began to be wanted, or something became known, or the server left it to the
 -- others. Ticks in vain are forgotten where news came without a tick that was due; and where it is one value
@@ -79,10 +83,11 @@ awaits t = t.resumes && is_none t.since
 abbrev pub begun : Ticking → Ticking
 begun t = record t { at = Some t.known; resumes = false }
 
--- how many times the patience: after each tick once more, up to growth times in all; or longer, after ticks in
--- vain, and at least so much longer without a stake
+-- how many times the patience: after each tick once more, up to growth times in all; or longer, after ticks
+-- in vain, and at least so much longer without a stake
 abbrev pub waited : Ticking → Times → Bool → ℕ
-waited t times stake = max (min (t.ticks + 1) times.growth) (max t.longer (if stake then 0 else times.longer) + 1)
+waited t times stake =
+    max (min (t.ticks + 1) times.growth) (max t.longer (if stake then 0 else times.longer) + 1)
 
 -- the patience has passed so many times
 abbrev pub Ticks : Ticking → ℕ → ℕ → Times → Bool → Type 0
@@ -107,7 +112,8 @@ ticked t times now answered = record (begun t) {
 
 -- it saw no attempt
 abbrev pub first_yielding : Yielding
-first_yielding = record { tried = no_nodes; tries = None; last = None; stands = None; free = None; took = 0; since = None }
+first_yielding =
+    record { tried = no_nodes; tries = None; last = None; stands = None; free = None; took = 0; since = None }
 
 -- how long attempts stood, where they do no more
 abbrev pub took_by : Option ℕ → ℕ → ℕ → ℕ
@@ -126,7 +132,14 @@ abbrev pub noted_tries : Yielding → ℕ → Option ℕ → Yielding
 noted_tries y now None = record (ended y now) { tries = None; free = Some (unwrap_or y.free now) }
 noted_tries y now (Some q) =
     let stood = if stood_by y.tries q then y else ended y now in
-    record stood { tried = with_node y.tried q; tries = Some q; last = Some q; stands = Some (unwrap_or stood.stands now); free = None }
+    record stood {
+      tried = with_node y.tried q;
+      tries = Some q;
+      last = Some q;
+      stands = Some
+          (unwrap_or stood.stands now);
+      free = None;
+    }
 
 -- one that tried comes before this server, behind the one that tried last
 pub record IsBehind (y : Yielding) (me : ℕ) : Type 0 where
@@ -145,11 +158,13 @@ Waits y me = ((q : ℕ) × (y.tries ≡ Some q) × (q ≢ me)) ⊎ IsBehind y me
 abbrev pub IsSoon : Yielding → ℕ → Type 0
 IsSoon y now = (free : ℕ) × (y.free ≡ Some free) × (now - free ≤ y.took + 1)
 
--- a stretch of so many milliseconds may go on: the bound on it has not passed, nor six times as long as the last attempts stood, and a millisecond more
+-- a stretch of so many milliseconds may go on: the bound on it has not passed, nor six times as long as the
+-- last attempts stood, and a millisecond more
 abbrev pub MayGoOn : Yielding → Times → ℕ → Type 0
 MayGoOn y times millis = (millis < times.yielding) × (millis < 6 * (y.took + 1))
 
--- so it waits: as long in a stretch as that may go on, and for an attempt that begins hardly longer than the last ones stood
+-- so it waits: as long in a stretch as that may go on, and for an attempt that begins hardly longer than the
+-- last ones stood
 abbrev pub Yields : Yielding → Times → ℕ → ℕ → Type 0
 Yields y times now me =
     Waits y me
@@ -167,7 +182,8 @@ yielding_after y now waits false = record y { tried = if waits then no_nodes els
 abbrev pub Rests : Resting → Type 0
 Rests r = (r.came ≡ false) × (r.served ≡ false) × (r.stirred ≡ false)
 
--- a response, or a message that is no question, wakes a server; what else came does not count as an empty step
+-- a response, or a message that is no question, wakes a server; what else came does not count as an empty
+-- step
 abbrev pub empty_after : Resting → ℕ
 empty_after r =
     if r.served || r.stirred then 0
@@ -198,8 +214,8 @@ IsUntried s = (values : List Value) → IsKnownPrefix s values → IsPromise s.e
 abbrev pub IsVotedBy : Node → ℕ → ℕ → Type 0
 IsVotedBy s i p = (vote : Vote) × (last_vote i s.entries ≡ Some vote) × (vote.ballot.node ≡ p)
 
--- it has something to decide, where it knows so many values: one of its own waits to be proposed, or its record
--- had a vote further on as it began
+-- it has something to decide, where it knows so many values: one of its own waits to be proposed, or its
+-- record had a vote further on as it began
 abbrev pub HasStake : Node → ℕ → ℕ → Type 0
 HasStake s known recorded = (s.pending ≢ []) ⊎ (known < recorded)
 
@@ -207,8 +223,8 @@ HasStake s known recorded = (s.pending ≢ []) ⊎ (known < recorded)
 abbrev pub IsIdle : Node → Type 0
 IsIdle s = (i : ℕ) → s.attempts i ≡ None
 
--- where so many values are known: it voted for the last of them at an own ballot, its record had a vote further on as
--- it began, and it has no attempt open
+-- where so many values are known: it voted for the last of them at an own ballot, its record had a vote
+-- further on as it began, and it has no attempt open
 pub record Resumes (s : Node) (me known recorded : ℕ) : Type 0 where
   pub range : IsInstance known
   pub own : IsVotedBy s known me
@@ -230,7 +246,8 @@ pub record IsSeen (s : Node) (p recorded : ℕ) (drained : Bool) (seen : Seen) :
   pub resumes : IsTrue seen.resumes ↔ Resumes s p seen.known recorded
   pub kept : IsTrue seen.kept ↔ HasKept s seen.known
 
--- a server of n begins quiet, over a record whose furthest vote is there; it never asked, and no tick is wanted
+-- a server of n begins quiet, over a record whose furthest vote is there; it never asked, and no tick is
+-- wanted
 abbrev pub first_pace : Times → ℕ → ℕ → ℕ → Pace
 first_pace times n node recorded = record {
   times = times;
@@ -272,7 +289,8 @@ again_after q known = if nat_eq known q.known then min (q.again + 1) (2 ^ 32 - 1
 
 -- what came since is counted anew from a question on
 abbrev pub question_after : LastQuestion → ℕ → ℕ → LastCall → LastQuestion
-question_after q now known Ask = record { at = Some now; known = known; tried = false; again = again_after q known }
+question_after q now known Ask =
+    record { at = Some now; known = known; tried = false; again = again_after q known }
 question_after q now known last = q
 
 -- it yields where the first unknown instance is promised so
@@ -336,7 +354,8 @@ IsTelling p n s now seen waits telling new =
     ((waits ≡ true) × (telling ≡ None) × (new ≡ p.questions))
     ⊎ ((waits ≡ false) × TellsNext p.questions (teller_of p now seen) n s telling new)
 
--- This is called behind the turns of a batch that begins now, by a server in a group of n, over this node; and that is its pace then
+-- This is called behind the turns of a batch that begins now, by a server in a group of n, over this node;
+-- and that is its pace then
 pub record CallsDue (old : Pace) (n : ℕ) (s : Node) (now : ℕ) (drained : Bool) (last : LastCall)
     (new : Pace) : Type 0 where
   pub seen : Seen

@@ -28,10 +28,11 @@ comes_before at times now p me q = is_there at times now q && nat_lt (places_beh
 abbrev pub before : List (Option ℕ) → Times → ℕ → ℕ → ℕ → ℕ → ℕ
 before at times now p me zero = 0
 before at times now p me (suc k) =
-    if comes_before at times now p me (suc k) then suc (before at times now p me k) else before at times now p me k
+    if comes_before at times now p me (suc k) then suc
+    (before at times now p me k) else before at times now p me k
 
--- It is this node's turn to tell node p, after so many questions in a row that brought that no further. A node
--- always tells itself. Of the others the first that is there has its turn at once, and each question brings
--- the next one in
+-- It is this node's turn to tell node p, after so many questions in a row that brought that no further. A
+-- node always tells itself. Of the others the first that is there has its turn at once, and each question
+-- brings the next one in
 abbrev pub has_turn : List (Option ℕ) → Times → ℕ → ℕ → ℕ → ℕ → Bool
 has_turn at times now p me repeats = nat_eq p me || nat_le (before at times now p me 9) repeats

@@ -60,9 +60,9 @@ asking_of last times now seen empty more = record {
 
 -- ---- tellings
 
--- Something is to be told: all instances of a telling; or, as it asked, what is known or on record as learned;
--- or what was voted for from the instance on that it asked for, if nobody tries a value and there may be such
--- votes
+-- Something is to be told: all instances of a telling; or, as it asked, what is known or on record as
+-- learned; or what was voted for from the instance on that it asked for, if nobody tries a value and there
+-- may be such votes
 abbrev pub HasNews : Telling → Type 0
 HasNews t = (t.full ≡ true) ⊎ ((t.asked ≡ true) × ((t.known ≡ true) ⊎ ((t.calm ≡ true) × (t.votes ≡ true))))
 
@@ -76,7 +76,8 @@ IsFull s first = let final = first + (MAX_TOLD - 1) in (final ≤ MAX_INSTANCE) 
 
 -- none was heard
 abbrev pub no_questions : ℕ → Questions
-no_questions me = record { asked = replicate 9 None; courses = replicate 9 None; present = nobody_heard; last = me }
+no_questions me =
+    record { asked = replicate 9 None; courses = replicate 9 None; present = nobody_heard; last = me }
 
 -- of a node its newest question: one that was heard, or else the one before
 abbrev pub newer : Option ℕ → Option ℕ → Option ℕ
@@ -105,8 +106,8 @@ pub record TakesIn (old : Questions) (times : Times) (now : ℕ) (new : Question
 abbrev pub told_count : ℕ → ℕ → ℕ → ℕ
 told_count known i count = if nat_le i known then min count (known - i + 1) else count
 
--- there may be votes to tell: its node asked for the next instance or for a later one, and the furthest instance
--- of which anything was heard is no earlier
+-- there may be votes to tell: its node asked for the next instance or for a later one, and the furthest
+-- instance of which anything was heard is no earlier
 abbrev pub may_have_votes : Course → ℕ → Bool
 may_have_votes course furthest = nat_le course.next course.first && nat_le course.next furthest
 
@@ -149,7 +150,8 @@ NobodyIsDue q teller n s = (p : ℕ) (c : Course) → IsNode n p → ¬ IsDueTo 
 
 -- from then on it is told behind that
 abbrev pub told_so : Questions → Next → Questions
-told_so q next = record q { courses = set q.courses (next.to - 1) (Some (told_on next.course next.count)); last = next.to }
+told_so q next =
+    record q { courses = set q.courses (next.to - 1) (Some (told_on next.course next.count)); last = next.to }
 
 -- What was heard is taken in, and then the first node to which something is due is told, if there is one
 pub record TellsNext (old : Questions) (teller : Teller) (n : ℕ) (s : Node) (telling : Option (ℕ × ℕ))

@@ -10,10 +10,11 @@ pub struct Asking {
     pub learned: u32,
     /// Nothing waits to be received.
     pub drained: bool,
-    /// Nobody was seen to try a value since it asked last, or what it tried itself is known, and more is on its record.
+    /// Nobody was seen to try a value since it asked last, or what it tried itself is known, and more is on
+    /// its record.
     pub calm: bool,
-    /// Its record has the value of the first unknown instance, or messages were of instances that nobody tries
-    /// before that one is known.
+    /// Its record has the value of the first unknown instance, or messages were of instances that nobody
+    /// tries before that one is known.
     pub behind: bool,
     /// Others know what it does not.
     pub lacks: bool,

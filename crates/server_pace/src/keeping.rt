@@ -1,6 +1,7 @@
 //! When a server puts on record what it learned.
 //!
-//! Each seal waits for the disk twice, so values wait for one another: who catches up over 100,000 values seals a hundred times for them.
+//! Each seal waits for the disk twice, so values wait for one another: who catches up over 100,000 values
+//! seals a hundred times for them.
 
 ghost use Rattle.std.specs.Prelude.{◌≡◌, ◌↔◌, IsTrue, None};
 ghost use Rattle.server_pace.specs.Keeping.{kept_on, owed_at, IsKeepDue, IsNextBlock};
@@ -8,7 +9,8 @@ ghost use Rattle.server_pace.specs.Keeping.{kept_on, owed_at, IsKeepDue, IsNextB
 use server_times::Times;
 use site_ids::Instance;
 
-/// Of how many instances, from the first one on, what is known was put on record, and since when more is known.
+/// Of how many instances, from the first one on, what is known was put on record, and since when more is
+/// known.
 #[derive(Clone, Copy, Debug, PartialEq, Eq, Drop)]
 pub struct Keeping {
     /// So many instances were kept since the server began.
@@ -38,7 +40,8 @@ impl Keeping {
         }
     }
 
-    /// Whether values wait no longer: the oldest has waited for its time, or there are as many as a block has.
+    /// Whether values wait no longer: the oldest has waited for its time, or there are as many as a block
+    /// has.
     pub fn is_due(self, times: Times, now: u64, known: u32) -> bool
         ensures { IsTrue result ↔ IsKeepDue self times now known }
     {

@@ -63,8 +63,8 @@ impl LastQuestion {
         }
     }
 
-    /// What stands where it may ask again, after so many steps in which nothing came; and where it is to hear of more of
-    /// what is on its record, or not.
+    /// What stands where it may ask again, after so many steps in which nothing came; and where it is to hear
+    /// of more of what is on its record, or not.
     pub fn asking(self, times: Times, now: u64, seen: Seen, empty: u32, more: bool) -> Asking
         ensures { result ≡ asking_of self times now seen empty more }
     {

@@ -31,7 +31,8 @@ use site_ids::{Cluster, Instance, NodeId, NodeSet};
 
 /// What was tried, asked, heard and told, by whom and when.
 ///
-/// A step calls `due`, then `hear` behind its batch, and then `rest`. Its moments are milliseconds since the server began, none of them less than the one before.
+/// A step calls `due`, then `hear` behind its batch, and then `rest`. Its moments are milliseconds since the
+/// server began, none of them less than the one before.
 #[derive(Clone, Copy, Drop)]
 pub struct Pace {
     times: Times,
@@ -68,7 +69,8 @@ fn is_telling(last: &LastCall) -> bool
 }
 
 impl Pace {
-    /// That of a server which begins, over a record whose furthest vote is at that instance, or 0: it is quiet.
+    /// That of a server which begins, over a record whose furthest vote is at that instance, or 0: it is
+    /// quiet.
     pub fn new(times: Times, cluster: Cluster, me: NodeId, recorded: u32) -> Pace
         ensures { result ≡ first_pace times cluster me recorded }
     {
@@ -108,8 +110,9 @@ impl Pace {
         self.stirred |= stirs != 0;
     }
 
-    /// What is called behind the turns of the next batch, which begins now, where all that had come was taken in by the last one, or not. What is called
-    /// counts from now on. A value that was just submitted is tried at once where nobody tries one and it is no other server's turn.
+    /// What is called behind the turns of the next batch, which begins now, where all that had come was taken
+    /// in by the last one, or not. What is called counts from now on. A value that was just submitted is
+    /// tried at once where nobody tries one and it is no other server's turn.
     pub fn due<D: Disk>(&mut self, now: u64, node: &Node<D>, drained: bool) -> LastCall
         ensures fresh { (s : AbstractNode) → IsNodeOf node.now s → WantsTick s → IsUntried s
             → ¬ IsYielding self.old now None → self.old.ticking.since ≡ None → self.old.stirred ≡ false
@@ -274,13 +277,17 @@ impl Pace {
         }
     }
 
-    /// How many microseconds are rested after a step: none while something came, and only a few while it tells
-    /// somebody something. It is told whether datagrams came or bytes of clients, and whether a response was
-    /// written.
+    /// How many microseconds are rested after a step: none while something came, and only a few while it
+    /// tells somebody something. It is told whether datagrams came or bytes of clients, and whether a
+    /// response was written.
     pub fn rest(&mut self, came: bool, served: bool) -> Option<u64>
         ensures rests { IsSome result ↔ (came ≡ false) × (served ≡ false) × (self.old.stirred ≡ false) }
-        ensures long { IfSome result (λ micros. micros ≡ rest_after self.old.times self.old.empty self.old.tells) }
-        ensures counts { self.new ≡ record self.old { empty = empty_after (resting_of self.old came served) } }
+        ensures long { IfSome result (λ micros. micros
+            ≡ rest_after self.old.times self.old.empty self.old.tells) }
+        ensures counts { self.new ≡ record self.old {
+          empty = empty_after
+              (resting_of self.old came served);
+        } }
     {
         let resting = Resting {
             came,

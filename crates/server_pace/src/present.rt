@@ -2,7 +2,8 @@
 
 ghost use Rattle.std.specs.Prelude.{◌≡◌, ◌≤◌, Some, nat_le, if◌then◌else◌};
 ghost use Rattle.site_ids.specs.NodeSets.{no_nodes, AreUnited};
-ghost use Rattle.server_pace.specs.Presence.{before, comes_before, has_turn, is_there, nobody_heard, AreHeard};
+ghost use Rattle.server_pace.specs.Presence.{before, comes_before, has_turn, is_there, nobody_heard};
+ghost use Rattle.server_pace.specs.Presence.{AreHeard};
 
 use crate::places::places_behind;
 use server_times::{Times, has_passed};

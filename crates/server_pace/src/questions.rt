@@ -139,8 +139,8 @@ fn courses_after(
     all
 }
 
-/// Whether there may be votes to tell of a course's next instance: its node asked for it or for a later one, and
-/// the furthest instance of which anything was heard is no earlier.
+/// Whether there may be votes to tell of a course's next instance: its node asked for it or for a later one,
+/// and the furthest instance of which anything was heard is no earlier.
 fn may_have_votes(course: Course, furthest: u32) -> bool
     ensures { result ≡ may_have_votes course furthest }
 {

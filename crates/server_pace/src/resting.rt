@@ -1,6 +1,7 @@
 //! When a server rests.
 //!
-//! Rests grow behind 200 empty passes and 2,000: at 1.5 ms throughout quiet nodes cost 4.3 to 6.9% of a core, so 1.6 to 2.0.
+//! Rests grow behind 200 empty passes and 2,000: at 1.5 ms throughout quiet nodes cost 4.3 to 6.9% of a core,
+//! so 1.6 to 2.0.
 
 ghost use Rattle.std.specs.Prelude.{◌≡◌, ◌↔◌, IsTrue, false};
 ghost use Rattle.server_pace.specs.Pacing.{empty_after};
@@ -26,7 +27,8 @@ impl Resting {
         !self.came && !self.served && !self.stirred
     }
 
-    /// How many empty steps lie before the next one. Questions, and parts of requests, do not count, and wake nobody up.
+    /// How many empty steps lie before the next one. Questions, and parts of requests, do not count, and wake
+    /// nobody up.
     pub fn empty_after(self) -> u32
         ensures { result ≡ empty_after self }
     {

@@ -5,11 +5,12 @@ ghost use Rattle.server_pace.specs.Returning.{returning_of, Returns};
 
 use server_times::Times;
 
-/// A server over a record with values knows none of them as it begins: what it would answer is older than what it
-/// answered before it was ended. So it leaves requests until it knows as many, for so long at most.
+/// A server over a record with values knows none of them as it begins: what it would answer is older than
+/// what it answered before it was ended. So it leaves requests until it knows as many, for so long at most.
 #[derive(Clone, Copy, Debug, PartialEq, Eq, Drop)]
 pub struct Returning {
-    /// The furthest instance with a vote or a learned value on its record as it began; 0 where there are none.
+    /// The furthest instance with a vote or a learned value on its record as it began; 0 where there are
+    /// none.
     pub recorded: u32,
     /// In milliseconds.
     pub most: u64,

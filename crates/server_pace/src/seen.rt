@@ -20,11 +20,11 @@ pub struct Seen {
     pub wanted: bool,
     /// All that had come was taken in.
     pub drained: bool,
-    /// It has something to decide: a value of its own waits to be proposed, or its record had a vote further on as
-    /// it began.
+    /// It has something to decide: a value of its own waits to be proposed, or its record had a vote further
+    /// on as it began.
     pub stake: bool,
-    /// It voted for the last of them at an own ballot, its record had a vote further on as it began, and it has no
-    /// attempt open.
+    /// It voted for the last of them at an own ballot, its record had a vote further on as it began, and it
+    /// has no attempt open.
     pub resumes: bool,
     /// The value of the first unknown instance is on its record as learned.
     pub kept: bool,
@@ -49,8 +49,8 @@ fn is_voted_by<D: Disk>(node: &Node<D>, instance: Instance, by: NodeId) -> bool
     }
 }
 
-/// Whether it has something to decide, where so many values are known, and the furthest vote of the record as it
-/// began is there.
+/// Whether it has something to decide, where so many values are known, and the furthest vote of the record as
+/// it began is there.
 fn has_stake<D: Disk>(node: &Node<D>, known: u32, recorded: u32) -> bool
     ensures { (s : AbstractNode) → IsNodeOf node.now s → IsTrue result ↔ HasStake s known recorded }
 {
@@ -64,8 +64,8 @@ fn is_idle<D: Disk>(node: &Node<D>) -> bool
     node.attempts() == 0
 }
 
-/// Whether it decides again what is on its record, where so many values are known, and the furthest vote of the record as
-/// it began is there.
+/// Whether it decides again what is on its record, where so many values are known, and the furthest vote of
+/// the record as it began is there.
 fn resumes<D: Disk>(node: &Node<D>, me: NodeId, known: u32, recorded: u32) -> bool
     ensures { (s : AbstractNode) → IsNodeOf node.now s → IsTrue result ↔ Resumes s me known recorded }
 {

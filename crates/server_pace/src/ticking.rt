@@ -12,7 +12,8 @@ use server_times::Times;
 pub struct Ticking {
     /// A tick is waited for since then, in milliseconds since the server began; never where none is wanted.
     pub since: Option<u64>,
-    /// One was wanted first then, since the last news. `since` moves on from it at ticks, and while the server leaves it to others.
+    /// One was wanted first then, since the last news. `since` moves on from it at ticks, and while the
+    /// server leaves it to others.
     pub first: Option<u64>,
     /// So many values were known as it was noted at last.
     pub known: u32,
@@ -24,7 +25,8 @@ pub struct Ticking {
     /// So many values were known as it ticked last, if it did: as that was due, for a value that was fresh,
     /// or at once.
     pub at: Option<u32>,
-    /// One instance became known behind its last tick, by its own ballot, and its record had a vote further on.
+    /// One instance became known behind its last tick, by its own ballot, and its record had a vote further
+    /// on.
     pub resumes: bool,
 }
 
@@ -44,7 +46,8 @@ impl Ticking {
         }
     }
 
-    /// Whether a value was just submitted that nobody tries: a tick begins to be wanted, and what the last batch delivered, if anything, were questions.
+    /// Whether a value was just submitted that nobody tries: a tick begins to be wanted, and what the last
+    /// batch delivered, if anything, were questions.
     pub fn is_fresh(self, wanted: bool, stirred: bool) -> bool
         ensures { IsTrue result ↔ (wanted ≡ true) × (self.since ≡ None) × (stirred ≡ false) }
     {
@@ -70,9 +73,9 @@ impl Ticking {
         !seen.stake && (stirred && now.saturating_sub(first) < times.leaving)
     }
 
-    /// What stands now that so much is seen, and messages of attempts came since, or not (`stirred`). The patience
-    /// begins anew with news, and while it is left to others; ticks in vain are forgotten where news came without
-    /// a tick that was due.
+    /// What stands now that so much is seen, and messages of attempts came since, or not (`stirred`). The
+    /// patience begins anew with news, and while it is left to others; ticks in vain are forgotten where news
+    /// came without a tick that was due.
     pub fn noted(self, times: Times, now: u64, seen: Seen, stirred: bool) -> Ticking
         ensures { result ≡ noted self times now seen stirred }
     {
@@ -129,7 +132,8 @@ impl Ticking {
         self.resumes && self.since.is_some()
     }
 
-    /// Whether it would go on, and heard of nothing further: the next of what is on its record has to be told first.
+    /// Whether it would go on, and heard of nothing further: the next of what is on its record has to be told
+    /// first.
     pub fn awaits(self) -> bool
         ensures { result ≡ awaits self }
     {

@@ -8,7 +8,8 @@ use crate::places::places_behind;
 use server_times::Times;
 use site_ids::{NodeId, NodeSet};
 
-/// In a stretch it yields for less than so many times as long as the last attempts stood, and a millisecond more: turns of six others.
+/// In a stretch it yields for less than so many times as long as the last attempts stood, and a millisecond
+/// more: turns of six others.
 const TURNS: u64 = 6;
 
 /// Whose attempts this server saw at its first unknown instance, and since when it yields.
@@ -20,7 +21,8 @@ pub struct Yielding {
     pub tries: Option<NodeId>,
     /// Whose attempt stood there last.
     pub last: Option<NodeId>,
-    /// Since when that node's attempts stand there, in milliseconds since the server began; never where none does.
+    /// Since when that node's attempts stand there, in milliseconds since the server began; never where none
+    /// does.
     pub stands: Option<u64>,
     /// Since when none does.
     pub free: Option<u64>,
@@ -114,8 +116,8 @@ impl Yielding {
         }
     }
 
-    /// Whether no attempt has stood there for longer than those of the last node did, and a millisecond more: a clock that counts milliseconds may have taken
-    /// one for none.
+    /// Whether no attempt has stood there for longer than those of the last node did, and a millisecond more:
+    /// a clock that counts milliseconds may have taken one for none.
     fn is_soon(&self, now: u64) -> bool
         ensures { IsTrue result ↔ IsSoon self.now now }
     {
@@ -142,7 +144,8 @@ impl Yielding {
         self.may_go_on(times, stretch) && soon && self.waits(me)
     }
 
-    /// It yields now, or does not. Where it waited in vain, nobody's turn is before its own until one tries again.
+    /// It yields now, or does not. Where it waited in vain, nobody's turn is before its own until one tries
+    /// again.
     pub fn pass(&mut self, now: u64, waits: bool, yields: bool)
         ensures { self.new ≡ yielding_after self.old now waits yields }
     {

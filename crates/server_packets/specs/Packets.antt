@@ -11,7 +11,8 @@ abbrev pub framed_all : List (List ℕ) → List ℕ
 framed_all [] = []
 framed_all (d ∷ ds) = framed d ++ framed_all ds
 
--- several datagrams in one: a mark that no message begins with, and then each of them, in order; of 1,400 bytes at most
+-- several datagrams in one: a mark that no message begins with, and then each of them, in order; of 1,400
+-- bytes at most
 pub record IsPacketOf (ds : List (List ℕ)) (bytes : List ℕ) : Type 0 where
   pub is : bytes ≡ MARK ∷ framed_all ds
   pub short : length bytes ≤ MAX_PACKET

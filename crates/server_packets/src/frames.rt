@@ -1,6 +1,7 @@
 //! The datagrams of a packet that came.
 
-ghost use Rattle.std.specs.Prelude.{◌≡◌, ◌≢◌, ◌<◌, ◌≤◌, ◌^◌, ◌↔◌, ◌++◌, ◌∷◌, ℕ, List, length, IfNone, IfSome, IsTrue, MatchOption};
+ghost use Rattle.std.specs.Prelude.{◌≡◌, ◌≢◌, ◌<◌, ◌≤◌, ◌^◌, ◌↔◌, ◌++◌, ◌∷◌, ℕ, List, length, IfNone, IfSome};
+ghost use Rattle.std.specs.Prelude.{IsTrue, MatchOption};
 ghost use Rattle.byteorder.specs.Endian.{big_bytes};
 ghost use Rattle.server_packets.specs.Packets.{framed, framed_all, IsPacket};
 ghost use Rattle.server_packets.specs.declared.TheConstants.{MARK, MAX_PACKET};
@@ -42,7 +43,9 @@ fn are_frames(frames: &[u8]) -> bool
 
 /// What follows the mark, if these bytes are a packet of several datagrams.
 pub fn frames_in(bytes: &[u8]) -> Option<&[u8]>
-    ensures { MatchOption result (¬ IsPacket bytes.now) (λ frames. (bytes.now ≡ MARK ∷ frames.now) × (length bytes.now ≤ MAX_PACKET) × ((ds : List (List ℕ)) × (frames.now ≡ framed_all ds))) }
+    ensures { MatchOption result (¬ IsPacket bytes.now)
+        (λ frames. (bytes.now ≡ MARK ∷ frames.now) × (length bytes.now ≤ MAX_PACKET)
+        × ((ds : List (List ℕ)) × (frames.now ≡ framed_all ds))) }
 {
     let [mark, frames @ ..] = bytes else {
         return None;

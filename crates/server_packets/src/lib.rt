@@ -12,7 +12,8 @@ pub use packet::Packet;
 /// What a packet of several datagrams begins with, and no message does.
 pub const MARK: u8 = 3;
 
-/// The most bytes of such a packet: with the heads of UDP and IP it fits one frame of an Ethernet, so none is cut into fragments, of which each has to arrive.
+/// The most bytes of such a packet: with the heads of UDP and IP it fits one frame of an Ethernet, so none is
+/// cut into fragments, of which each has to arrive.
 pub const MAX_PACKET: usize = 1400;
 
 /// The bytes of a datagram's length before it.

@@ -1,6 +1,7 @@
 //! A packet that is being made.
 
-ghost use Rattle.std.specs.Prelude.{◌≡◌, ◌↔◌, ◌≤◌, ◌++◌, ◌∷◌, [], ℕ, ◌+◌, ◌*◌, List, length, vec_len, IfOk, IfNone, IfSome, IsTrue, OnOk, OnErr};
+ghost use Rattle.std.specs.Prelude.{◌≡◌, ◌↔◌, ◌≤◌, ◌++◌, ◌∷◌, [], ℕ, ◌+◌, ◌*◌, List, length, vec_len, IfOk};
+ghost use Rattle.std.specs.Prelude.{IfNone, IfSome, IsTrue, OnOk, OnErr};
 ghost use Rattle.byteorder.specs.Endian.{big_bytes};
 ghost use Rattle.server_packets.specs.Packets.{framed_all, IsPacketOf, IsSent};
 ghost use Rattle.server_packets.specs.declared.TheConstants.{MAX_PACKET};
@@ -71,7 +72,8 @@ impl Packet {
 
     /// Adds one more datagram, for which there is room.
     pub fn push(&mut self, datagram: &[u8]) -> Result<(), AllocError>
-        ensures ok { OnOk result ((ds : List (List ℕ)) → Packs self.old ds → HasRoom ds (length datagram.now) → Packs self.new (ds ++ datagram.now ∷ [])) }
+        ensures ok { OnOk result ((ds : List (List ℕ)) → Packs self.old ds → HasRoom ds (length datagram.now)
+            → Packs self.new (ds ++ datagram.now ∷ [])) }
         ensures refused { OnErr result ((ds : List (List ℕ)) → Packs self.old ds → Packs self.new ds) }
     {
         let before = self.bytes.len();
@@ -86,8 +88,10 @@ impl Packet {
 
     /// The same as a packet, even if it is one datagram, unless that has more bytes than a packet may.
     pub fn as_packet(&self) -> Option<&[u8]>
-        ensures fits { IfSome result (λ bytes. (ds : List (List ℕ)) → Packs self.now ds → IsPacketOf ds bytes.now) }
-        ensures long { IfNone result ((ds : List (List ℕ)) → Packs self.now ds → MAX_PACKET ≤ length (framed_all ds)) }
+        ensures fits { IfSome result (λ bytes. (ds : List (List ℕ)) → Packs self.now ds
+            → IsPacketOf ds bytes.now) }
+        ensures long { IfNone result ((ds : List (List ℕ)) → Packs self.now ds
+            → MAX_PACKET ≤ length (framed_all ds)) }
     {
         if self.bytes.len() > MAX_PACKET {
             return None;

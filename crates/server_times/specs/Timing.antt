@@ -19,7 +19,8 @@ asks_after times empty = if nat_lt empty times.quiet then times.asking else time
 -- where it is behind and knows no more than at its last question: once more as long after each question in a
 -- row for one instance
 abbrev pub asks_again_after : Times → ℕ → ℕ → ℕ
-asks_again_after times again empty = min (min (times.again * (again + 1)) (2 ^ 64 - 1)) (asks_after times empty)
+asks_again_after times again empty =
+    min (min (times.again * (again + 1)) (2 ^ 64 - 1)) (asks_after times empty)
 
 -- after so many steps in which nothing came, in microseconds
 abbrev pub long_rest : Times → ℕ → ℕ
@@ -30,4 +31,5 @@ long_rest times empty =
 
 -- the same, but shorter while the server tells somebody something
 abbrev pub rest_after : Times → ℕ → Bool → ℕ
-rest_after times empty tells = if tells then min (long_rest times empty) times.telling_rest else long_rest times empty
+rest_after times empty tells =
+    if tells then min (long_rest times empty) times.telling_rest else long_rest times empty

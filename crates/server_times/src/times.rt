@@ -8,8 +8,8 @@ ghost use Rattle.server_times.specs.declared.times.TheConstants.{STANDARD};
 /// All that a server waits for, in one place.
 #[derive(Clone, Copy, Debug, PartialEq, Eq, Drop)]
 pub struct Times {
-    /// Milliseconds without news behind which it tries a value again, at least: more at greater numbers (`Pace`). An option of the command line; the servers
-    /// of a group may have different ones.
+    /// Milliseconds without news behind which it tries a value again, at least: more at greater numbers
+    /// (`Pace`). An option of the command line; the servers of a group may have different ones.
     pub patience: u64,
     /// The patience grows with the tries that brought no news, up to so many times (`Ticking`).
     pub growth: u32,
@@ -17,7 +17,8 @@ pub struct Times {
     /// without a bound; and so many at least without a stake (`Ticking`). So servers far apart
     /// do not outbid one another for ever.
     pub longer: u32,
-    /// Milliseconds for which a server without a stake leaves it to the others to decide, at most, while their messages come (`Ticking`).
+    /// Milliseconds for which a server without a stake leaves it to the others to decide, at most, while
+    /// their messages come (`Ticking`).
     pub leaving: u64,
     /// Milliseconds between two questions to the others of which the first brought nothing (`LastQuestion`).
     pub asking: u64,
@@ -45,18 +46,21 @@ pub struct Times {
     pub keeping: u64,
     /// So many values do not wait for others (`Keeping`).
     pub block: u32,
-    /// Milliseconds for which a node is sent packets behind one that came of it: so one that reads none, or no longer, gets datagrams (`Peers`).
+    /// Milliseconds for which a node is sent packets behind one that came of it: so one that reads none, or
+    /// no longer, gets datagrams (`Peers`).
     pub packets: u64,
-    /// Milliseconds between two packets that another node is sent at least, so that it learns that this one reads them (`Peers`).
+    /// Milliseconds between two packets that another node is sent at least, so that it learns that this one
+    /// reads them (`Peers`).
     pub showing: u64,
     /// Milliseconds in a stretch for which it yields to others that try, at most (`Yielding`).
     pub yielding: u64,
-    /// Behind so many steps in which nothing came it is idle: more than a client takes to come again (`Pace::rest`).
+    /// Behind so many steps in which nothing came it is idle: more than a client takes to come again
+    /// (`Pace::rest`).
     pub idle: u32,
     /// Behind so many it is quiet: some three seconds (`Pace::rest`).
     pub quiet: u32,
-    /// For so many steps in which nothing came, one after another, it does not rest: a client that was answered
-    /// comes again at once, and so does another node's message (`Pace::rest`).
+    /// For so many steps in which nothing came, one after another, it does not rest: a client that was
+    /// answered comes again at once, and so does another node's message (`Pace::rest`).
     pub eager: u32,
     /// Microseconds that it rests behind a step in which nothing came, while it is busy (`Pace::rest`).
     pub rest: u64,
@@ -67,26 +71,30 @@ pub struct Times {
     /// Microseconds that it rests at most if it told a node something in this step or in the one before it:
     /// the next telling is near, and no telling wakes a server (`Pace::rest`).
     pub telling_rest: u64,
-    /// Milliseconds that a connection is kept open between requests: nothing of the next one came, and nothing is left to write. RFC 9112, section 9.5,
-    /// permits to close one at any time.
+    /// Milliseconds that a connection is kept open between requests: nothing of the next one came, and
+    /// nothing is left to write. RFC 9112, section 9.5, permits to close one at any time.
     pub between_requests: u64,
-    /// Milliseconds that a request which has begun, or a response which its client does not read, is given without a byte that moves.
+    /// Milliseconds that a request which has begun, or a response which its client does not read, is given
+    /// without a byte that moves.
     pub without_progress: u64,
-    /// Milliseconds for which a server that begins leaves requests, at most, while it knows less than its record has (`Returning`).
+    /// Milliseconds for which a server that begins leaves requests, at most, while it knows less than its
+    /// record has (`Returning`).
     pub returning: u64,
-    /// Milliseconds for which what a client still sends behind its last response is read and dropped, at most, so that the response is not lost (RFC 9112,
-    /// section 9.6): a client that reads it closes within that (`Linger`).
+    /// Milliseconds for which what a client still sends behind its last response is read and dropped, at
+    /// most, so that the response is not lost (RFC 9112, section 9.6): a client that reads it closes within
+    /// that (`Linger`).
     pub lingering: u64,
-    /// Milliseconds for which a request keeps a seat from others: one that takes longer, as its client sends or reads slowly, goes for another client where
-    /// all seats are taken (`Seats::make_room`).
+    /// Milliseconds for which a request keeps a seat from others: one that takes longer, as its client sends
+    /// or reads slowly, goes for another client where all seats are taken (`Seats::make_room`).
     pub keeps_seat: u64,
-    /// Milliseconds for which a request for a receipt that is not there yet is left, behind the last bytes that its client sent: most values are known by
-    /// then, and a client asks once.
+    /// Milliseconds for which a request for a receipt that is not there yet is left, behind the last bytes
+    /// that its client sent: most values are known by then, and a client asks once.
     pub receipts: u64,
     /// Milliseconds, after the last bytes that its client sent, for which the responses before such a request
     /// are held back. Most receipts are there by then, and go out together with these responses (`Hold`).
     pub holds: u64,
-    /// Milliseconds that a request is given, from its first byte to the last of its response, where that is limited. An option of the command line.
+    /// Milliseconds that a request is given, from its first byte to the last of its response, where that is
+    /// limited. An option of the command line.
     pub serve_ms: Option<u64>,
 }
 
@@ -126,7 +134,8 @@ const STANDARD: Times = Times {
     serve_ms: None,
 };
 
-/// Whether so many milliseconds have passed since then, by a clock in milliseconds that never goes back: since never they have.
+/// Whether so many milliseconds have passed since then, by a clock in milliseconds that never goes back:
+/// since never they have.
 pub fn has_passed(since: Option<u64>, now: u64, millis: u64) -> bool
     ensures is { result ≡ passed since now millis }
     ensures rule { IsTrue result ↔ IfSome since (λ then. millis ≤ now - then) }
@@ -149,14 +158,16 @@ impl Times {
         }
     }
 
-    /// How many milliseconds the server of that number waits before its first try: longer at greater numbers, so that two do not try as one.
+    /// How many milliseconds the server of that number waits before its first try: longer at greater numbers,
+    /// so that two do not try as one.
     pub fn patience_of(self, node: u8) -> u64
         ensures { result ≡ patience_of self node }
     {
         self.patience.saturating_mul(u64::from(node) + 1) / 2
     }
 
-    /// How many milliseconds behind a question that brought nothing the next one comes, after so many steps in which nothing came.
+    /// How many milliseconds behind a question that brought nothing the next one comes, after so many steps
+    /// in which nothing came.
     pub fn asks_after(self, empty: u32) -> u64
         ensures { result ≡ asks_after self empty }
     {

@@ -11,7 +11,8 @@ use std::alloc::{AllocError, Global};
 use std::marker::Model;
 use std::rc::Rc;
 
-/// A map from keys in their order. A copy shares what it has in common with the map that it is of: each costs what changes in it.
+/// A map from keys in their order. A copy shares what it has in common with the map that it is of: each costs
+/// what changes in it.
 #[derive(Drop)]
 pub struct SharedMap<K: Ord, V> {
     alloc: Global,
@@ -55,7 +56,8 @@ impl<K: Ord + Drop, V: Drop> SharedMap<K, V> {
         self.get(key).is_some()
     }
 
-    /// How high the tree of the entries is: some 1.44 times the binary logarithm of their number. No clause says so.
+    /// How high the tree of the entries is: some 1.44 times the binary logarithm of their number. No clause
+    /// says so.
     pub fn height(&self) -> u8 {
         self.tree.height()
     }
@@ -70,10 +72,12 @@ impl<K: Ord + Drop, V: Drop> SharedMap<K, V> {
         })
     }
 
-    /// Puts something at a key. The entry of an equal key, which maps copied from this one still have, is replaced.
+    /// Puts something at a key. The entry of an equal key, which maps copied from this one still have, is
+    /// replaced.
     pub fn put(&mut self, key: K, value: V) -> Result<(), AllocError>
         ensures ok { OnOk result (self.new ≡ put K.cmp (key, value) self.old) }
-        ensures finds { OnOk result ((compare : K → Ordering) → IsSearch K.cmp compare → find compare self.new ≡ cond (is_at compare key) (Some value) (find compare self.old)) }
+        ensures finds { OnOk result ((compare : K → Ordering) → IsSearch K.cmp compare
+            → find compare self.new ≡ cond (is_at compare key) (Some value) (find compare self.old)) }
         ensures err { OnErr result (self.new ≡ self.old) }
     {
         let entry = Rc::new(self.alloc, (key, value))?;
@@ -85,7 +89,8 @@ impl<K: Ord + Drop, V: Drop> SharedMap<K, V> {
     pub fn remove<Q: Sought<K>>(&mut self, key: Q) -> Result<(), AllocError>
         ensures ok { OnOk result (self.new ≡ remove (Q.compare key) self.old) }
         ensures gone { OnOk result (find (Q.compare key) self.new ≡ None) }
-        ensures others { OnOk result ((compare : K → Ordering) → AreApart (Q.compare key) compare → find compare self.new ≡ find compare self.old) }
+        ensures others { OnOk result ((compare : K → Ordering) → AreApart (Q.compare key) compare
+            → find compare self.new ≡ find compare self.old) }
         ensures err { OnErr result (self.new ≡ self.old) }
     {
         self.tree = self.tree.without(self.alloc, key)?;

@@ -8,7 +8,8 @@ use std::cmp::Ordering;
 use std::marker::Model;
 use std::rc::Rc;
 
-/// A balanced tree of entries, in the order of their keys (Adelson-Velsky and Landis, 1962). Its nodes are never changed, so trees share them.
+/// A balanced tree of entries, in the order of their keys (Adelson-Velsky and Landis, 1962). Its nodes are
+/// never changed, so trees share them.
 #[cycle(tree)]
 #[derive(Drop)]
 pub(crate) struct Tree<K: Ord, V> {
@@ -80,8 +81,10 @@ impl<K: Ord + Drop, V: Drop> Tree<K, V> {
     /// The fork at the top, if there are entries.
     fn fork(&self) -> Option<&Fork<K, V>>
         ensures none { IfNone result (self.now ≡ []) }
-        ensures some { IfSome result (λ fork. self.now ≡ fork.now.left ++ fork.now.entry.value ∷ fork.now.right) }
-        ensures rising { IfSome result (λ fork. IsRising K.cmp (fork.now.left ++ fork.now.entry.value ∷ fork.now.right)) }
+        ensures some { IfSome result (λ fork. self.now
+            ≡ fork.now.left ++ fork.now.entry.value ∷ fork.now.right) }
+        ensures rising { IfSome result (λ fork. IsRising K.cmp
+            (fork.now.left ++ fork.now.entry.value ∷ fork.now.right)) }
     {
         match &self.top {
             None => None,

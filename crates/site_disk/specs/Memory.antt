@@ -24,7 +24,8 @@ abbrev pub after_calls : DiskState → List Call → DiskState
 after_calls d [] = d
 after_calls d (call ∷ calls) = after_calls (after_call d call) calls
 
--- its calls since the last crash lead from what that crash left to this state, of which it keeps both contents; no crash will want memory
+-- its calls since the last crash lead from what that crash left to this state, of which it keeps both
+-- contents; no crash will want memory
 pub record MemoryStandsFor (disk : MemDisk) (d : DiskState) : Type 0 where
   pub replay : after_calls (at_rest disk.first.items []) disk.calls.items ≡ d
   pub seen : disk.bytes.items ≡ d.seen

@@ -26,8 +26,8 @@ IsWithin place [] = ⊥
 IsWithin place (range ∷ ranges) = ((range.start ≤ place) × (place < range.start + range.size))
     ⊎ IsWithin place ranges
 
--- A crash at this moment may leave these bytes: the length is one from that of the last sync to the present one, and the
--- synced bytes outside the written ranges stay.
+-- A crash at this moment may leave these bytes: the length is one from that of the last sync to the present
+-- one, and the synced bytes outside the written ranges stay.
 pub record MayLeave (m : Moment) (left : List ℕ) : Type 0 where
   pub no_shorter : length m.synced ≤ length left
   pub no_longer : length left ≤ m.longest

@@ -59,8 +59,8 @@ pub trait Disk {
             × stands_for self.new (after_write d at (length bytes.now) seen))) }
         ensures cause { CountsFailure result (failed self.old) (failed self.new) };
 
-    /// Writes as `write_at` does, to make the file longer before that is needed. Want of room is no failure of
-    /// the device: at `false` some of the bytes may have been written, and no failure is counted.
+    /// Writes as `write_at` does, to make the file longer before that is needed. Want of room is no failure
+    /// of the device: at `false` some of the bytes may have been written, and no failure is counted.
     fn lengthen(&mut self, at: u64, bytes: &[u8]) -> bool
         ensures written { IsTrue result → (d : DiskState) → stands_for self.old d → at ≤ length d.seen
             → stands_for self.new (after_write d at (length bytes.now) (overwritten d.seen at bytes.now)) }

@@ -103,7 +103,8 @@ impl<D: Disk> Disk for FailOnce<D> {
 
     fn write_at(&mut self, at: u64, bytes: &[u8]) -> Result<(), DiskFailed>
         ensures written { OnOk result ((d : DiskState) → D.stands_for self.old.disk d → at ≤ length d.seen
-            → D.stands_for self.new.disk (after_write d at (length bytes.now) (overwritten d.seen at bytes.now))) }
+            → D.stands_for self.new.disk
+            (after_write d at (length bytes.now) (overwritten d.seen at bytes.now))) }
         ensures torn { OnErr result ((d : DiskState) → D.stands_for self.old.disk d → at ≤ length d.seen
             → D.stands_for self.new.disk d
             ⊎ ((seen : List ℕ) × IsTorn at (length bytes.now) d.seen seen
@@ -121,7 +122,8 @@ impl<D: Disk> Disk for FailOnce<D> {
 
     fn lengthen(&mut self, at: u64, bytes: &[u8]) -> bool
         ensures written { IsTrue result → (d : DiskState) → D.stands_for self.old.disk d → at ≤ length d.seen
-            → D.stands_for self.new.disk (after_write d at (length bytes.now) (overwritten d.seen at bytes.now)) }
+            → D.stands_for self.new.disk
+            (after_write d at (length bytes.now) (overwritten d.seen at bytes.now)) }
         ensures torn { IsFalse result → (d : DiskState) → D.stands_for self.old.disk d → at ≤ length d.seen
             → D.stands_for self.new.disk d
             ⊎ ((seen : List ℕ) × IsTorn at (length bytes.now) d.seen seen

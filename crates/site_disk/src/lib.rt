@@ -1,5 +1,5 @@
-//! The disk file under a node's record: what it promises, one in memory that can fail and crash, one of which one call
-//! fails, and a real one.
+//! The disk file under a node's record: what it promises, one in memory that can fail and crash, one of which
+//! one call fails, and a real one.
 #![tactic(auto)]
 
 mod count;

@@ -130,8 +130,9 @@ impl MemDisk {
         self.left = None;
     }
 
-    /// Crashes, and comes up again unarmed. 0: what was written since the last sync is lost. 1: all of it is kept. Any
-    /// other choice: the length is kept, and each byte in a range written since then becomes this one.
+    /// Crashes, and comes up again unarmed. 0: what was written since the last sync is lost. 1: all of it is
+    /// kept. Any other choice: the length is kept, and each byte in a range written since then becomes this
+    /// one.
     pub fn crash(&mut self, choice: u8)
         ensures left { (d : DiskState) → MemoryStandsFor self.old d → (left : List ℕ)
             × MayLeave (moment d) left × MemoryStandsFor self.new (at_rest left []) }
@@ -197,7 +198,8 @@ impl MemDisk {
 
     fn write(&mut self, at: usize, bytes: &[u8]) -> Result<(), DiskFailed>
         ensures written { OnOk result ((d : DiskState) → MemoryStandsFor self.old d
-            → MemoryStandsFor self.new (after_write d at (length bytes.now) (overwritten d.seen at bytes.now))) }
+            → MemoryStandsFor self.new
+            (after_write d at (length bytes.now) (overwritten d.seen at bytes.now))) }
         ensures refused { OnErr result ((d : DiskState) → MemoryStandsFor self.old d
             → MemoryStandsFor self.new d) }
         ensures failed { self.new.failures ≡ self.old.failures }

@@ -121,8 +121,10 @@ IsStop why = (why ≡ fault.Device) ⊎ (why ≡ fault.Stopped)
 pub record EndsBatch {D : Type 0} (stands_for : D → DiskState → Type 0) (device : D
     → ℕ) (last : LastCall) (came : List (List ℕ)) (out : List (To
     × Message)) (old new : Running D) (result : Result ℕ NodeFault) : Type 0 where
-  pub ok : IfOk result (λ malformed. LeadsSealed stands_for old new (TakesBatch last old.cluster old.me came malformed out new.releases))
-  pub fault : IfErr result (λ why. LeadsSealed stands_for old new (GivesUpBatch last old.cluster old.me came why)
+  pub ok : IfOk result (λ malformed. LeadsSealed stands_for old new
+      (TakesBatch last old.cluster old.me came malformed out new.releases))
+  pub fault : IfErr result (λ why. LeadsSealed stands_for old new
+      (GivesUpBatch last old.cluster old.me came why)
       ⊎ (IsStop why × LosesBatch stands_for last came old new))
   pub whose : StaysWhose old new
   pub counts : CountsDevice result (failures device old) (failures device new)

@@ -35,7 +35,8 @@ abbrev pub counted_if : Bool → ℕ → ℕ
 counted_if is n = if is then min (n + 1) (2 ^ 32 - 1) else n
 
 abbrev pub none_noted : Delivered
-none_noted = record { heard = no_nodes; answered = no_nodes; questions = replicate 9 None; attempts = 0; stirs = 0 }
+none_noted =
+    record { heard = no_nodes; answered = no_nodes; questions = replicate 9 None; attempts = 0; stirs = 0 }
 
 -- one more message is noted
 abbrev pub noted : Message → Delivered → Delivered

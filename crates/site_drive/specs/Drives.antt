@@ -24,7 +24,8 @@ use Rattle.site_drive.specs.declared.last_call.LastCall.TheVariants.{Nothing}
 abbrev pub Heard : Type 0
 Heard = Option (List ℕ)
 
--- A turn at node p of n. A datagram that spells a message is delivered whole; any other counts as malformed, and does nothing
+-- A turn at node p of n. A datagram that spells a message is delivered whole; any other counts as malformed,
+-- and does nothing
 abbrev pub Takes : ℕ → ℕ → Node → Heard → ℕ → List (To × Message) → Node → Type 0
 Takes n p s None malformed out next = (malformed ≡ 0) × (out ≡ []) × (next ≡ s)
 Takes n p s (Some bytes) malformed out next =

@@ -23,7 +23,8 @@ abbrev pub KeepsRecord : {D : Type 0} → (D → DiskState → Type 0) → Runni
 KeepsRecord stands_for old new s next = (d : DiskState) → IsOnDisk stands_for old s d → (e : DiskState)
     × IsOnDisk stands_for new next e
 
--- From each node that the old value stands for, this leads to one that the new value stands for, on the disk as before or, while a batch is open, ahead of it
+-- From each node that the old value stands for, this leads to one that the new value stands for, on the disk
+-- as before or, while a batch is open, ahead of it
 pub record NodeLeads {D : Type 0} (stands_for : D → DiskState → Type 0) (old new : Running D)
     (How : Node → Node → Type 0) : Type 0 where
   pub leads : (s : Node) → IsNodeOf old s → (next : Node) × How s next × IsNodeOf new next

@@ -28,10 +28,14 @@ impl Desk {
         came: &[Vec<u8>],
     ) -> Result<usize, NodeFault>
         requires { self.old.outbox.items ≡ [] }
-        ensures ok { IfOk result (λ malformed. NodeLeads D.stands_for node.old node.new (λ s next. TakesEach node.old.cluster node.old.me (bytes_of came.now) malformed self.new.outbox.items s next × AllFit self.new.outbox.items)) }
-        ensures fault { IfErr result (λ why. NodeLeads D.stands_for node.old node.new (GivesUpTaking node.old.cluster node.old.me (bytes_of came.now) why)) }
+        ensures ok { IfOk result (λ malformed. NodeLeads D.stands_for node.old node.new
+            (λ s next. TakesEach node.old.cluster node.old.me
+            (bytes_of came.now) malformed self.new.outbox.items s next × AllFit self.new.outbox.items)) }
+        ensures fault { IfErr result (λ why. NodeLeads D.stands_for node.old node.new
+            (GivesUpTaking node.old.cluster node.old.me (bytes_of came.now) why)) }
         ensures few { IfOk result (λ malformed. malformed ≤ length came.now) }
-        ensures noted { OnOk result (AreNoted node.old.cluster (bytes_of came.now) self.old.delivered self.new.delivered) }
+        ensures noted { OnOk result (AreNoted node.old.cluster
+            (bytes_of came.now) self.old.delivered self.new.delivered) }
         ensures others { KeepsOthers node.old node.new }
         ensures counts { CountsDevice result (failures D.failed node.old) (failures D.failed node.new) }
     {
@@ -57,10 +61,13 @@ impl Desk {
         last: LastCall,
     ) -> Result<usize, NodeFault>
         requires { self.old.outbox.items ≡ [] }
-        ensures ok { IfOk result (λ malformed. NodeLeads D.stands_for node.old node.new (Works last node.old.cluster node.old.me (bytes_of came.now) malformed self.new.outbox.items)) }
-        ensures fault { IfErr result (λ why. NodeLeads D.stands_for node.old node.new (GivesUpWork last node.old.cluster node.old.me (bytes_of came.now) why)) }
+        ensures ok { IfOk result (λ malformed. NodeLeads D.stands_for node.old node.new
+            (Works last node.old.cluster node.old.me (bytes_of came.now) malformed self.new.outbox.items)) }
+        ensures fault { IfErr result (λ why. NodeLeads D.stands_for node.old node.new
+            (GivesUpWork last node.old.cluster node.old.me (bytes_of came.now) why)) }
         ensures few { IfOk result (λ malformed. malformed ≤ length came.now) }
-        ensures noted { OnOk result (AreNoted node.old.cluster (bytes_of came.now) self.old.delivered self.new.delivered) }
+        ensures noted { OnOk result (AreNoted node.old.cluster
+            (bytes_of came.now) self.old.delivered self.new.delivered) }
         ensures others { KeepsOthers node.old node.new }
         ensures counts { CountsDevice result (failures D.failed node.old) (failures D.failed node.new) }
     {
@@ -78,9 +85,11 @@ impl Desk {
         last: LastCall,
     ) -> Result<usize, NodeFault>
         requires { self.old.outbox.items ≡ [] }
-        ensures ends { EndsBatch D.stands_for D.failed last (bytes_of came.now) self.new.outbox.items node.old node.new result }
+        ensures ends { EndsBatch D.stands_for D.failed last
+            (bytes_of came.now) self.new.outbox.items node.old node.new result }
         ensures few { IfOk result (λ malformed. malformed ≤ length came.now) }
-        ensures noted { OnOk result (AreNoted node.old.cluster (bytes_of came.now) self.old.delivered self.new.delivered) }
+        ensures noted { OnOk result (AreNoted node.old.cluster
+            (bytes_of came.now) self.old.delivered self.new.delivered) }
     {
         node.begin()?;
         let malformed = match self.work(node, came, last) {
@@ -131,19 +140,20 @@ impl Desk {
         last: LastCall,
     ) -> Result<usize, NodeFault>
         requires { self.old.outbox.items ≡ [] }
-        ensures ends { EndsBatch D.stands_for D.failed last (bytes_of came.now) self.new.outbox.items node.old node.new result }
+        ensures ends { EndsBatch D.stands_for D.failed last
+            (bytes_of came.now) self.new.outbox.items node.old node.new result }
         ensures few { IfOk result (λ malformed. malformed ≤ length came.now) }
-        ensures noted { OnOk result (AreNoted node.old.cluster (bytes_of came.now) self.old.delivered self.new.delivered) }
+        ensures noted { OnOk result (AreNoted node.old.cluster
+            (bytes_of came.now) self.old.delivered self.new.delivered) }
     {
         self.make_room(node, came.is_empty())?;
         self.take_sealed(node, came, last)
     }
 
     /// One batch: delivers what came, in order, and makes the last call. What that puts on record is written
-    /// to the disk by two writes and two syncs, or by none if nothing was put. Before that the record's file grows
-    /// ahead, if the desk was told so and it is due (`Room`). Then the node publishes. What
-    /// the node hands out waits for `post`. Returns how many datagrams spell no message: they are ignored, as
-    /// losses.
+    /// to the disk by two writes and two syncs, or by none if nothing was put. Before that the record's file
+    /// grows ahead, if the desk was told so and it is due (`Room`). Then the node publishes. What the node
+    /// hands out waits for `post`. Returns how many datagrams spell no message: they are ignored, as losses.
     ///
     /// A device that fails leaves all of it on the disk or nothing, and stops the node. After a failed
     /// allocation what was done before is on the disk. After any fault nothing waits for `post`: what waits
@@ -154,9 +164,11 @@ impl Desk {
         came: &[Vec<u8>],
         last: LastCall,
     ) -> Result<usize, NodeFault>
-        ensures ends { EndsBatch D.stands_for D.failed last (bytes_of came.now) self.new.outbox.items node.old node.new result }
+        ensures ends { EndsBatch D.stands_for D.failed last
+            (bytes_of came.now) self.new.outbox.items node.old node.new result }
         ensures few { IfOk result (λ malformed. malformed ≤ length came.now) }
-        ensures noted { OnOk result (AreNoted node.old.cluster (bytes_of came.now) none_noted self.new.delivered) }
+        ensures noted { OnOk result (AreNoted node.old.cluster
+            (bytes_of came.now) none_noted self.new.delivered) }
         ensures nothing { OnErr result (self.new.outbox.items ≡ []) }
     {
         self.outbox.clear();

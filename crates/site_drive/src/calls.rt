@@ -17,7 +17,8 @@ use site_ids::Instance;
 
 /// Keeps what is known at `count` instances from the first one on, as far as there are instances.
 fn keep_each<D: Disk>(node: &mut Node<D>, first: Instance, count: u32) -> Result<(), NodeFault>
-    ensures event { NodeLeads D.stands_for node.old node.new (λ s next. KeepsEach node.old.cluster node.old.me first count s (ending_of result) next) }
+    ensures event { NodeLeads D.stands_for node.old node.new
+        (λ s next. KeepsEach node.old.cluster node.old.me first count s (ending_of result) next) }
     ensures others { KeepsOthers node.old node.new }
     ensures counts { CountsDevice result (failures D.failed node.old) (failures D.failed node.new) }
 {
@@ -36,7 +37,9 @@ fn keep_each<D: Disk>(node: &mut Node<D>, first: Instance, count: u32) -> Result
 impl Desk {
     /// Widens until no further attempt begins.
     fn widen_all<D: Disk>(&mut self, node: &mut Node<D>) -> Result<(), NodeFault>
-        ensures event { NodeLeads D.stands_for node.old node.new (Called LastCall.Widen node.old.cluster node.old.me (ending_of result) self.old.outbox.items self.new.outbox.items) }
+        ensures event { NodeLeads D.stands_for node.old node.new
+            (Called LastCall.Widen node.old.cluster node.old.me
+            (ending_of result) self.old.outbox.items self.new.outbox.items) }
         ensures others { KeepsOthers node.old node.new }
         ensures counted { self.new.failed ≡ self.old.failed }
         ensures delivered { self.new.delivered ≡ self.old.delivered }
@@ -48,7 +51,9 @@ impl Desk {
 
     /// Ticks and then widens if a tick is wanted, and asks if not.
     fn tick_or_ask<D: Disk>(&mut self, node: &mut Node<D>) -> Result<(), NodeFault>
-        ensures event { NodeLeads D.stands_for node.old node.new (Called LastCall.TickOrAsk node.old.cluster node.old.me (ending_of result) self.old.outbox.items self.new.outbox.items) }
+        ensures event { NodeLeads D.stands_for node.old node.new
+            (Called LastCall.TickOrAsk node.old.cluster node.old.me
+            (ending_of result) self.old.outbox.items self.new.outbox.items) }
         ensures others { KeepsOthers node.old node.new }
         ensures counted { self.new.failed ≡ self.old.failed }
         ensures delivered { self.new.delivered ≡ self.old.delivered }
@@ -62,7 +67,9 @@ impl Desk {
     }
 
     fn call<D: Disk>(&mut self, node: &mut Node<D>, last: LastCall) -> Result<(), NodeFault>
-        ensures event { NodeLeads D.stands_for node.old node.new (Called last node.old.cluster node.old.me (ending_of result) self.old.outbox.items self.new.outbox.items) }
+        ensures event { NodeLeads D.stands_for node.old node.new
+            (Called last node.old.cluster node.old.me
+            (ending_of result) self.old.outbox.items self.new.outbox.items) }
         ensures others { KeepsOthers node.old node.new }
         ensures counted { self.new.failed ≡ self.old.failed }
         ensures delivered { self.new.delivered ≡ self.old.delivered }
@@ -87,7 +94,9 @@ impl Desk {
         ensures ok { OnOk result (NodeLeads D.stands_for node.old node.new (λ s next. (out : List (To
             × Message)) × (self.new.outbox.items ≡ self.old.outbox.items ++ out)
             × EndsTurns last node.old.cluster node.old.me s out next × AllFit out)) }
-        ensures fault { IfErr result (λ fault. NodeLeads D.stands_for node.old node.new (λ s next. (out : List (To × Message)) × EndsLast last node.old.cluster node.old.me s (ending_by fault) out next)) }
+        ensures fault { IfErr result (λ fault. NodeLeads D.stands_for node.old node.new
+            (λ s next. (out : List (To × Message))
+            × EndsLast last node.old.cluster node.old.me s (ending_by fault) out next)) }
         ensures other { IfErr result (λ fault. fault ≢ NodeFault.InstancesUsedUp) }
         ensures others { KeepsOthers node.old node.new }
         ensures counted { self.new.failed ≡ self.old.failed }
@@ -109,7 +118,8 @@ impl Desk {
         last: LastCall,
     ) -> Result<(), NodeFault>
         requires { self.old.outbox.items ≡ [] }
-        ensures ok { OnOk result (LeadsTo D.stands_for L.received L.given node.old node.new link.old link.new (Closes last node.old.cluster node.old.me)) }
+        ensures ok { OnOk result (LeadsTo D.stands_for L.received L.given node.old node.new link.old link.new
+            (Closes last node.old.cluster node.old.me)) }
         ensures fault { IfErr result (λ fault. LeadsTo D.stands_for L.received L.given node.old node.new link.old link.new (GivesUpLast last node.old.cluster node.old.me fault)) }
         ensures others { KeepsOthers node.old node.new }
         ensures tried { L.tried link.new ≡ L.tried link.old }

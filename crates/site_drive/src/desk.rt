@@ -1,6 +1,7 @@
 //! What turns and the calls after them work with.
 //!
-//! Room for turns is made once, a fifth of an idle node's cost; the buffer has a byte more than the longest spelling.
+//! Room for turns is made once, a fifth of an idle node's cost; the buffer has a byte more than the longest
+//! spelling.
 
 ghost use Rattle.std.specs.Prelude.{◌≡◌, ◌+◌, [], length, IfOk};
 ghost use Rattle.wire.specs.declared.TheConstants.{MAX_MESSAGE};

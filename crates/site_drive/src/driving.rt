@@ -58,7 +58,8 @@ impl Desk {
         last: LastCall,
     ) -> Result<Driven, NodeFault>
         ensures { EndsDrive D.stands_for D.failed L.received L.given L.tried L.failed turns node.old node.new link.old link.new result
-            (λ driven. DrivesWith last node.old.cluster node.old.me turns driven.malformed node.new.releases) (GivesUpDrivingWith last node.old.cluster node.old.me turns) }
+            (λ driven. DrivesWith last node.old.cluster node.old.me turns driven.malformed node.new.releases)
+            (GivesUpDrivingWith last node.old.cluster node.old.me turns) }
     {
         self.outbox.clear();
         self.failed = 0;
@@ -81,7 +82,8 @@ pub fn drive<D: Disk, L: Link>(
     turns: u32,
 ) -> Result<Driven, NodeFault>
     ensures { EndsDrive D.stands_for D.failed L.received L.given L.tried L.failed turns node.old node.new link.old link.new result
-        (λ driven. Drives node.old.cluster node.old.me turns driven.malformed node.new.releases) (GivesUpDriving node.old.cluster node.old.me turns) }
+        (λ driven. Drives node.old.cluster node.old.me turns driven.malformed node.new.releases)
+        (GivesUpDriving node.old.cluster node.old.me turns) }
 {
     let mut desk = Desk::new(alloc)?;
     desk.drive_with(node, link, turns, LastCall::TickOrAsk)

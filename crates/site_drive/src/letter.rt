@@ -50,9 +50,11 @@ impl Desk {
     /// or for all.
     pub fn post(&self, letters: &mut Vec<Letter>) -> Result<(), AllocError>
         ensures ok { OnOk result (AllFit self.now.outbox.items
-            → letters_of letters.new.items ≡ letters_of letters.old.items ++ spelled_of self.now.outbox.items) }
+            → letters_of letters.new.items
+            ≡ letters_of letters.old.items ++ spelled_of self.now.outbox.items) }
         ensures refused { OnErr result (AllFit self.now.outbox.items → (k : ℕ)
-            × (letters_of letters.new.items ≡ letters_of letters.old.items ++ take k (spelled_of self.now.outbox.items))) }
+            × (letters_of letters.new.items
+            ≡ letters_of letters.old.items ++ take k (spelled_of self.now.outbox.items))) }
     {
         for (to, message) in self.outbox.as_slice() {
             put(self.alloc, letters, *to, message)?;

@@ -1,4 +1,5 @@
-//! A node at work: messages between nodes over a link, and turns that take what was received and send what is handed out.
+//! A node at work: messages between nodes over a link, and turns that take what was received and send what is
+//! handed out.
 #![tactic(auto)]
 
 mod batch;

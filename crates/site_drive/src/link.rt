@@ -13,9 +13,11 @@ use site_ids::NodeId;
 #[derive(Clone, Copy, Debug, PartialEq, Eq, Drop)]
 pub struct LinkFailed;
 
-/// Carries datagrams between nodes, as UDP does (RFC 768): each whole or not at all, perhaps twice, in any order.
+/// Carries datagrams between nodes, as UDP does (RFC 768): each whole or not at all, perhaps twice, in any
+/// order.
 pub trait Link {
-    // these may be the datagrams received so far, and these what was given to send so far: to whom, and the bytes
+    // these may be the datagrams received so far, and these what was given to send so far: to whom, and the
+    // bytes
     ghost received: { Self → List (List ℕ) → Type 0 };
 
     ghost given: { Self → List (ℕ × List ℕ) → Type 0 };

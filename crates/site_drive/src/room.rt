@@ -20,8 +20,8 @@ impl Room {
         Room { size: 0, next: 0 }
     }
 
-    /// Whether the file of a record of `bytes` bytes grows now. While nothing waits (`idle`), half of the room
-    /// has to be used; else three quarters.
+    /// Whether the file of a record of `bytes` bytes grows now. While nothing waits (`idle`), half of the
+    /// room has to be used; else three quarters.
     pub fn is_due(self, bytes: u64, idle: bool) -> bool
         ensures { IsTrue result ↔ IsDue self bytes idle }
     {

@@ -31,8 +31,11 @@ pub(crate) fn deliver_datagram<D: Disk>(
     outbox: &mut Outbox,
 ) -> Result<u32, NodeFault>
     ensures one { IfOk result (λ malformed. malformed ≤ 1) }
-    ensures taken { IfOk result (λ malformed. NodeLeads D.stands_for node.old node.new (TakesIn node.old.cluster node.old.me (Some datagram.now) malformed outbox.old.items outbox.new.items)) }
-    ensures broken { IfErr result (λ fault. NodeLeads D.stands_for node.old node.new (λ s next. BreaksOff node.old.cluster node.old.me s datagram.now fault next)) }
+    ensures taken { IfOk result (λ malformed. NodeLeads D.stands_for node.old node.new
+        (TakesIn node.old.cluster node.old.me
+        (Some datagram.now) malformed outbox.old.items outbox.new.items)) }
+    ensures broken { IfErr result (λ fault. NodeLeads D.stands_for node.old node.new
+        (λ s next. BreaksOff node.old.cluster node.old.me s datagram.now fault next)) }
     ensures noted { OnOk result (IsNoted node.old.cluster datagram.now delivered.old delivered.new) }
     ensures others { KeepsOthers node.old node.new }
     ensures counts { CountsDevice result (failures D.failed node.old) (failures D.failed node.new) }
@@ -80,7 +83,8 @@ impl Desk {
         requires { IfSome came (λ n. n ≤ length self.old.datagram.items) }
         ensures one { IfOk result (λ malformed. malformed ≤ 1) }
         ensures taken { IfOk result (λ malformed. (h : Heard) → IsHeldAs came self.old.datagram.items h
-            → NodeLeads D.stands_for node.old node.new (TakesIn node.old.cluster node.old.me h malformed self.old.outbox.items self.new.outbox.items)) }
+            → NodeLeads D.stands_for node.old node.new
+            (TakesIn node.old.cluster node.old.me h malformed self.old.outbox.items self.new.outbox.items)) }
         ensures broken { IfErr result (λ fault. (h : Heard) → IsHeldAs came self.old.datagram.items h
             → NodeLeads D.stands_for node.old node.new (λ s next.
             (d : List ℕ) × (h ≡ Some d) × BreaksOff node.old.cluster node.old.me s d fault next)) }

@@ -18,7 +18,9 @@ pub record BallotOf : Type 0 where
   pub node : ℕ
 
 abbrev pub coded_ballot : Coded BallotOf
-coded_ballot = code_by (ℕ × ℕ) (coded× coded_ℕ coded_ℕ) (λ b. (b.round, b.node)) (λ p. record { round = p.0; node = p.1 }) (λ _. refl)
+coded_ballot =
+    code_by (ℕ × ℕ) (coded× coded_ℕ coded_ℕ) (λ b. (b.round, b.node))
+    (λ p. record { round = p.0; node = p.1 }) (λ _. refl)
 
 -- a round from 1 on in four bytes, and one of the n nodes
 abbrev pub IsBallot : ℕ → BallotOf → Type 0

@@ -1,5 +1,6 @@
 -- A set of nodes: of each node p whether it is one of them, at the place p - 1 of nine.
-use Rattle.std.specs.Prelude.{◌≡◌, ℕ, suc, ◌-◌, ◌<◌, List, [], ◌∷◌, replicate, get_or, set, Bool, true, false, ◌||◌}
+use Rattle.std.specs.Prelude.{◌≡◌, ℕ, suc, ◌-◌, ◌<◌, List, [], ◌∷◌, replicate, get_or, set, Bool, true, false}
+use Rattle.std.specs.Prelude.{◌||◌}
 
 abbrev pub no_nodes : List Bool
 no_nodes = replicate 9 false
@@ -20,4 +21,5 @@ count_of (false ∷ nodes) = count_of nodes
 
 -- those of either set
 abbrev pub AreUnited : List Bool → List Bool → List Bool → Type 0
-AreUnited some others all = (i : ℕ) → i < 9 → get_or all i false ≡ (get_or some i false || get_or others i false)
+AreUnited some others all =
+    (i : ℕ) → i < 9 → get_or all i false ≡ (get_or some i false || get_or others i false)

@@ -31,7 +31,8 @@ impl Model for Ballot {
 
 impl Ballot {
     pub fn new(round: u32, node: NodeId) -> Option<Ballot>
-        ensures { MatchOption result (round ≡ 0) (λ b. (b ≡ record { round = round; node = node }) × (1 ≤ round)) }
+        ensures { MatchOption result (round ≡ 0)
+            (λ b. (b ≡ record { round = round; node = node }) × (1 ≤ round)) }
     {
         if 1 <= round {
             Some(Ballot { round, node })

@@ -1,6 +1,6 @@
-//! All programs' engines and command lines in one place, for tests that run programs without a process (`test_server`);
-//! and the two laws that know servers and worlds: what a server does with its node is a schedule's (`passes.rt`), and a floor that it is given one of the world's
-//! (`floors.rt`).
+//! All programs' engines and command lines in one place, for tests that run programs without a process
+//! (`test_server`); and the two laws that know servers and worlds: what a server does with its node is a
+//! schedule's (`passes.rt`), and a floor that it is given one of the world's (`floors.rt`).
 #![tactic(auto)]
 
 mod floors;

@@ -1,5 +1,5 @@
-//! `sited --id P --record FILE --http ADDRESS --rounds R [--format] [--above P:REACH].. ADDRESS..`: one node of a group, over UDP and HTTP.
-//! `sited --inspect FILE`: what a record holds.
+//! `sited --id P --record FILE --http ADDRESS --rounds R [--format] [--above P:REACH].. ADDRESS..`: one node
+//! of a group, over UDP and HTTP. `sited --inspect FILE`: what a record holds.
 #![tactic(auto)]
 
 use engine_options::{
@@ -12,8 +12,8 @@ use std::fs::File;
 use std::io::{self, Write};
 use std::process::ExitCode;
 
-/// Takes the places of standard input, output and error that are closed: the record would be opened there, and
-/// what is printed would be written into it. Writing to one of these places fails.
+/// Takes the places of standard input, output and error that are closed: the record would be opened there,
+/// and what is printed would be written into it. Writing to one of these places fails.
 fn stand_ins(rt: &HostRuntime) -> [io::Result<File>; 3] {
     [
         File::open(rt, "/"),

@@ -127,7 +127,8 @@ pub(crate) fn writes(
     drop(run);
 }
 
-/// A response: status and reason; the type; a line of its own, or nothing; the line that closes, or nothing; the body.
+/// A response: status and reason; the type; a line of its own, or nothing; the line that closes, or nothing;
+/// the body.
 pub(crate) type Row = (
     &'static str,
     &'static str,

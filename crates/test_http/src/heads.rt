@@ -105,7 +105,8 @@ const FIELDS: &[Row] = &[
     ("Host: a\r\nContent-Length: 99999999999999999999\r\n", "413"),
 ];
 
-/// Connection lines behind `GET / HTTP/1.1` and a Host line: the word `close` closes, between commas and in any case.
+/// Connection lines behind `GET / HTTP/1.1` and a Host line: the word `close` closes, between commas and in
+/// any case.
 const CONNECTIONS: &[Row] = &[
     ("", "GET /"),
     ("Connection: close\r\n", "GET / and closes"),
@@ -133,7 +134,8 @@ const OLD_CONNECTIONS: &[Row] = &[
     ("Connection: close\r\n", "GET / and closes"),
 ];
 
-/// Whole heads that fail a test, or two: the first one tells the status. HTTP/1.0 may leave Host out and has no transfer codings.
+/// Whole heads that fail a test, or two: the first one tells the status. HTTP/1.0 may leave Host out and has
+/// no transfer codings.
 const ORDER: &[Row] = &[
     ("GET / HTTP/1.0\r\n\r\n", "GET / and closes"),
     ("GET / HTTP/1.0\r\nHost: a\r\nHost: a\r\n\r\n", "400"),

@@ -1,5 +1,5 @@
-//! Connections whose bytes come and go in many steps: cut in every way, over ends of which calls come too early, up to a fault, and up to the
-//! last response.
+//! Connections whose bytes come and go in many steps: cut in every way, over ends of which calls come too
+//! early, up to a fault, and up to the last response.
 use crate::comparing::{ensure, same};
 use crate::desk::{Desk, open_desk, took};
 use crate::responses::{BAD, LAST_PAGE, PAGE};
@@ -74,7 +74,8 @@ fn check_broken(rt: &impl Abort, desk: &mut Desk<'_>) {
     }
 }
 
-/// A client that sends no more behind so many bytes, and a reader that fails there: what was whole is answered.
+/// A client that sends no more behind so many bytes, and a reader that fails there: what was whole is
+/// answered.
 fn check_short(rt: &impl Abort, desk: &mut Desk<'_>, len: usize, written: &[u8], answered: u32) {
     let front = whole(&BOTH[..len.min(BOTH.len())]);
     check(rt, desk, front, AMPLE, written, answered, len);
@@ -148,7 +149,8 @@ fn a_submission_cut_short(rt: HostRuntime) {
     drop(desk);
 }
 
-/// What a client sends, and what is written for it: nothing behind a last response is answered, and no submission behind it is taken.
+/// What a client sends, and what is written for it: nothing behind a last response is answered, and no
+/// submission behind it is taken.
 const LAST: &[(&str, &str)] = &[
     (
         "GET /h HTTP/1.1\r\n\r\nPOST /_submit/1/5 HTTP/1.1\r\nHost: a\r\nContent-Length: 8\r\n\r\nrelease\n",

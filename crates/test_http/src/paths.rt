@@ -61,7 +61,8 @@ const WANTS_GET: &Row = &(
     "method not allowed\n",
 );
 
-/// Paths of two releases, and what GET answers; HEAD answers the same without the body, and POST wants GET or HEAD.
+/// Paths of two releases, and what GET answers; HEAD answers the same without the body, and POST wants GET or
+/// HEAD.
 const PATHS: &[(&str, &Row)] = &[
     ("/h", LATER),
     ("/@1/h", FIRST),

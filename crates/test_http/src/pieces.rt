@@ -46,8 +46,8 @@ fn fault_text(fault: &ReadFault) -> &'static str {
     }
 }
 
-/// What came, in words: `GET /h`, with its body where it has one, and whether it closes its connection; `400`, or `400 to HEAD`; or the end of
-/// the input.
+/// What came, in words: `GET /h`, with its body where it has one, and whether it closes its connection;
+/// `400`, or `400 to HEAD`; or the end of the input.
 fn text_of(alloc: Global, came: &Incoming) -> Result<String, AllocError> {
     match came {
         Incoming::Request(asked) => request_text(alloc, asked),
@@ -252,8 +252,8 @@ fn check_cuts(rt: &impl Abort, alloc: Global, case: &Case<'_>) {
     }
 }
 
-/// In pieces of several sizes, read at once; cut into two at each place, and byte by byte, read on. A long one comes in longer pieces, and is cut in the
-/// middle alone.
+/// In pieces of several sizes, read at once; cut into two at each place, and byte by byte, read on. A long
+/// one comes in longer pieces, and is cut in the middle alone.
 fn check_case(rt: &impl Abort, alloc: Global, case: &Case<'_>) {
     if case.text.len() < 1_000 {
         check_sizes(rt, alloc, case, SHORT_PIECES);

@@ -58,8 +58,8 @@ fn five_requests_at_once(rt: HostRuntime) {
     check_writers(&rt, rt.alloc(), FIVE, FIVE_ANSWERS);
 }
 
-/// How long a page is (its response has 77 bytes more, and the digits of its length), how many questions for it
-/// come at once, how many of them are answered before anything is written, and how many bytes wait then.
+/// How long a page is (its response has 77 bytes more, and the digits of its length), how many questions for
+/// it come at once, how many of them are answered before anything is written, and how many bytes wait then.
 const WAITS: &[(usize, usize, u32, usize)] = &[
     (3, 1, 1, 81),
     (3, 99, 99, 8_019),

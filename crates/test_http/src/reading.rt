@@ -31,7 +31,8 @@ impl Reading {
         }
     }
 
-    /// Reads on in what the inbox holds. The call's contract is long: here it stands alone, and nothing is promised of it.
+    /// Reads on in what the inbox holds. The call's contract is long: here it stands alone, and nothing is
+    /// promised of it.
     pub(crate) fn go_on(&mut self, alloc: Global) -> Result<Option<Incoming>, AllocError> {
         advance(alloc, &mut self.progress, &mut self.inbox, &mut self.spans)
     }

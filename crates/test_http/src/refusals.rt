@@ -1,8 +1,9 @@
 //! Requests and connections with one growth refused: a call answers as ever, or memory was refused, nothing
 //! was written and nothing taken, and then another connection with the same bytes is answered as ever.
 //!
-//! All is tried twice, since a second program, `tools/gate/refuse-growths`, runs each test once for each growth of
-//! its memory and refuses that one: the first try meets it, the second does not. Alone a test is refused nothing.
+//! All is tried twice, since a second program, `tools/gate/refuse-growths`, runs each test once for each
+//! growth of its memory and refuses that one: the first try meets it, the second does not. Alone a test is
+//! refused nothing.
 use crate::comparing::{ensure, same};
 use crate::desk::{Desk, open_desk, took};
 use crate::ends::{Connection, served};
@@ -142,7 +143,8 @@ fn requests_in_pieces(rt: HostRuntime) {
     }
 }
 
-/// What is sent, the response that may stand where memory was refused for the next one, and the end of what is written.
+/// What is sent, the response that may stand where memory was refused for the next one, and the end of what
+/// is written.
 type Row = (&'static str, &'static str, &'static str);
 
 const ROWS: &[Row] = &[
@@ -186,7 +188,8 @@ fn is_untouched(desk: &Desk<'_>, written: &[u8], first: &str) -> bool {
     (written.is_empty() || written == first.as_bytes()) && desk.values.is_empty()
 }
 
-/// Whether memory was refused, before anything was taken and but for that response written, or the writer's own growth was.
+/// Whether memory was refused, before anything was taken and but for that response written, or the writer's
+/// own growth was.
 fn is_refused(rt: &impl Abort, desk: &Desk<'_>, run: &Connection, row: &Row) -> bool {
     match run.result {
         Err(ServeFault::OutOfMemory) => {
@@ -243,8 +246,8 @@ fn two_requests(rt: HostRuntime) {
     drop(desk);
 }
 
-/// Whether memory was refused to a connection in steps, before anything was taken and but for that response written, and it is over; or the
-/// writer's own growth was.
+/// Whether memory was refused to a connection in steps, before anything was taken and but for that response
+/// written, and it is over; or the writer's own growth was.
 fn is_ended(rt: &impl Abort, desk: &Desk<'_>, run: &Run, row: &Row) -> bool {
     ensure(rt, run.is_over, row.0);
     if run.result.is_err() {

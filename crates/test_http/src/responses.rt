@@ -62,7 +62,8 @@ const REFUSED: &[(&str, &Row)] = &[
     ("Transfer-Encoding: chunked\r\n\r\n9C41\r\n", TOO_LARGE),
 ];
 
-/// Heads that are too long, for 414 and for 431: what stands before 8,188 letters and behind them, and the refusal.
+/// Heads that are too long, for 414 and for 431: what stands before 8,188 letters and behind them, and the
+/// refusal.
 const LONG: &[(&str, &str, Row)] = &[
     (
         "GET /",

@@ -1,4 +1,5 @@
-//! Several requests on a connection: responses one behind another, when it is closed, and what stands after a fault.
+//! Several requests on a connection: responses one behind another, when it is closed, and what stands after a
+//! fault.
 use crate::comparing::same;
 use crate::desk::{Desk, open_desk, took};
 use crate::each_end::{answers_in_pieces, ends_early, fails_to_read, fails_to_write};
@@ -28,7 +29,8 @@ const TWO_SUBMISSIONS: &[u8] =
 const BOTH_QUEUED: &[u8] =
     b"HTTP/1.1 202 Accepted\r\nContent-Type: text/plain; charset=utf-8\r\nContent-Length: 7\r\n\r\nqueued\nHTTP/1.1 202 Accepted\r\nContent-Type: text/plain; charset=utf-8\r\nContent-Length: 7\r\n\r\nqueued\n";
 
-/// What a client sends, what is written, and how it ends: a further request behind each closing one isn't answered.
+/// What a client sends, what is written, and how it ends: a further request behind each closing one isn't
+/// answered.
 const ENDS: &[(&str, &str, Outcome)] = &[
     ("", "", Err(ServeFault::EndedEarly)),
     ("\r\n", "", Err(ServeFault::EndedEarly)),

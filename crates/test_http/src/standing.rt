@@ -43,7 +43,8 @@ fn check_pieces(rt: &impl Abort, alloc: Global, reading: &mut Reading, rows: &[R
     }
 }
 
-/// Gives the pieces one after another, and then a last one, which makes the request of that body whole and leaves so much.
+/// Gives the pieces one after another, and then a last one, which makes the request of that body whole and
+/// leaves so much.
 fn check_awaited(
     rt: &impl Abort,
     alloc: Global,

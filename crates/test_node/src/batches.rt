@@ -1,4 +1,5 @@
-//! A batch of calls: judged by what is in memory, and whichever call of its seal fails, all of it is found when the node is opened again, or none of it.
+//! A batch of calls: judged by what is in memory, and whichever call of its seal fails, all of it is found
+//! when the node is opened again, or none of it.
 use crate::failures::FAILURES;
 use crate::heard::Heard;
 use crate::peer::Call;
@@ -9,8 +10,9 @@ use node::NodeFault;
 use std::alloc::Global;
 use std::process::Abort;
 
-/// A batch that puts a round, a promise and a vote on record: the vote is at the ballot promised in it. Within it a request is judged by what was put before
-/// it: node 3 is refused as it prepares round 1, below the promise.
+/// A batch that puts a round, a promise and a vote on record: the vote is at the ballot promised in it.
+/// Within it a request is judged by what was put before it: node 3 is refused as it prepares round 1, below
+/// the promise.
 const JUDGED: &[Step] = &[
     Step::Calls(Call::Begin),
     Step::Calls(Call::Tick),
@@ -32,7 +34,8 @@ const NOT_SEALED: &[Step] = &[
     Step::Fails(Call::Seal, NodeFault::Stopped),
 ];
 
-/// All three entries show: the next round, the refusal below the promise, and the vote as round 3 is promised.
+/// All three entries show: the next round, the refusal below the promise, and the vote as round 3 is
+/// promised.
 const ALL: &[Step] = &[
     Step::Calls(Call::Tick),
     Step::Last(0, Said::Prepare(1, 2, 1)),

@@ -1,4 +1,5 @@
-//! A device that fails at each call of each put, what is found when the node is opened again, and what the node says of it.
+//! A device that fails at each call of each put, what is found when the node is opened again, and what the
+//! node says of it.
 use crate::comparing::ensure;
 use crate::failures::FAILURES;
 use crate::heard::Heard;
@@ -10,7 +11,8 @@ use node::NodeFault;
 use std::alloc::Global;
 use std::process::Abort;
 
-/// A call that puts an entry on record, and one whose answer tells whether it stands: to whom, and what is said where it does.
+/// A call that puts an entry on record, and one whose answer tells whether it stands: to whom, and what is
+/// said where it does.
 type Put = (Call, Call, u8, Said);
 
 /// A tick takes the next round, a prepare below the promise is refused, a promise tells the vote.
@@ -30,8 +32,8 @@ const PUTS: &[Put] = &[
     ),
 ];
 
-/// Whether the entry is found where the device failed after so many calls, and the node is opened again. Where it failed nothing was handed out, and the node
-/// was stopped.
+/// Whether the entry is found where the device failed after so many calls, and the node is opened again.
+/// Where it failed nothing was handed out, and the node was stopped.
 fn found(rt: &impl Abort, alloc: Global, put: Put, calls: u32, crash: Option<u8>) -> bool {
     let (enter, ask, to, said) = put;
     let failed = [

@@ -1,5 +1,6 @@
-//! Nodes over disks in memory: worked rows of one node, devices that fail at each call of a put and of a seal, and each growth refused. `driven` has nodes
-//! that are driven over links, `worlds` runs of whole groups. What lines of `sitesim` show is a file of examples/schedules: here stands what none shows or does,
+//! Nodes over disks in memory: worked rows of one node, devices that fail at each call of a put and of a
+//! seal, and each growth refused. `driven` has nodes that are driven over links, `worlds` runs of whole
+//! groups. What lines of `sitesim` show is a file of examples/schedules: here stands what none shows or does,
 //! as a message that no node of a group would send, a fault's kind, a device's calls, a growth refused.
 #![tactic(auto)]
 

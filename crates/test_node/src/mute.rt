@@ -56,7 +56,8 @@ fn a_node_that_only_learns_asks_in_the_place_of_trying(rt: HostRuntime) {
     play_above(&rt, rt.alloc(), 2, ASKS);
 }
 
-/// It tells what it learned, counts votes, and takes part once it knows all up to its floor, where it stays mute.
+/// It tells what it learned, counts votes, and takes part once it knows all up to its floor, where it stays
+/// mute.
 const TAKES_PART: &[Step] = &[
     Step::Hears(Heard::Vote(2, RELEASE)),
     Step::Hears(Heard::Vote(3, RELEASE)),

@@ -1,5 +1,5 @@
-//! Nodes over disks in memory, boxed: what owns one is proved to let it go at each of its ends, and a box is let go of in one step. What was refused memory is
-//! tried once more.
+//! Nodes over disks in memory, boxed: what owns one is proved to let it go at each of its ends, and a box is
+//! let go of in one step. What was refused memory is tried once more.
 ghost use Rattle.site_ids.specs.Ids.{IsNode};
 
 use crate::comparing::{ensure, is_page, same};
@@ -26,7 +26,8 @@ fn format(alloc: Global, cluster: Cluster, me: NodeId) -> Result<MemDisk, Record
     }
 }
 
-/// A record that was just made. A growth that was refused leaves a beginning of it behind, so it is made on another disk then.
+/// A record that was just made. A growth that was refused leaves a beginning of it behind, so it is made on
+/// another disk then.
 fn formatted(rt: &impl Abort, alloc: Global, cluster: Cluster, me: NodeId) -> MemDisk {
     match format(alloc, cluster, me) {
         Ok(disk) => disk,

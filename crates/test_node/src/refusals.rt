@@ -1,8 +1,10 @@
 //! Each call with one growth refused: it answers as ever, or that memory was refused, and then the next try
-//! answers as ever. Where the disk in memory found none its call failed, so the node is opened again; an opening is tried twice.
+//! answers as ever. Where the disk in memory found none its call failed, so the node is opened again; an
+//! opening is tried twice.
 //!
-//! All is tried twice, since a second program, `tools/gate/refuse-growths`, runs each test once for each growth of
-//! its memory and refuses that one: the first try meets it, the second does not. Alone a test is refused nothing.
+//! All is tried twice, since a second program, `tools/gate/refuse-growths`, runs each test once for each
+//! growth of its memory and refuses that one: the first try meets it, the second does not. Alone a test is
+//! refused nothing.
 use crate::comparing::{ensure, same};
 use crate::heard::Heard;
 use crate::peer::{Call, Peer, ends, passes};

@@ -68,7 +68,8 @@ fn a_queue_takes_64(rt: HostRuntime) {
     play(&rt, rt.alloc(), 3, SIXTY_FOUR);
 }
 
-/// Node 3 promised round 5 of node 2. Of two promises in the next round the one that tells the later vote decides what is proposed.
+/// Node 3 promised round 5 of node 2. Of two promises in the next round the one that tells the later vote
+/// decides what is proposed.
 const ABOVE_A_ROUND: &[Step] = &[
     Step::Calls(Call::Tick),
     Step::Last(0, Said::Prepare(1, 1, 1)),

@@ -6,7 +6,8 @@ use crate::samples::NOTHING;
 use crate::steps::{Step, play, play_over_a_crash};
 use node::NodeFault;
 
-/// Instance 5 is promised to (1, 1), 6 to (3, 2), 7 has a vote at (2, 1): then a prepare of all three is promised, refused, and not answered.
+/// Instance 5 is promised to (1, 1), 6 to (3, 2), 7 has a vote at (2, 1): then a prepare of all three is
+/// promised, refused, and not answered.
 const THREE_KINDS: &[Step] = &[
     Step::Hears(Heard::Prepare(1, 5, 1, 1)),
     Step::Says(1, &[Said::Promise(5)]),
@@ -36,7 +37,8 @@ fn a_span_is_kept_over_a_crash(rt: HostRuntime) {
     play_over_a_crash(&rt, rt.alloc(), THREE_KINDS, KEPT);
 }
 
-/// Two spans that overlap by halves: the lower one is refused where the higher one was promised, and promised elsewhere. A third one, above both, is told the vote.
+/// Two spans that overlap by halves: the lower one is refused where the higher one was promised, and promised
+/// elsewhere. A third one, above both, is told the vote.
 const OVERLAPPING: &[Step] = &[
     Step::Hears(Heard::Prepare(3, 3, 4, 2)),
     Step::Says(

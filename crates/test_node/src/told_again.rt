@@ -36,7 +36,8 @@ const STEPS: &[Step] = &[
     Step::Says(2, &[Said::Vote(1_000_000, 1, "e")]),
 ];
 
-/// A value that is known goes before the vote there; a promise alone is nothing to tell; of 64 instances, and none past the last.
+/// A value that is known goes before the vote there; a promise alone is nothing to tell; of 64 instances, and
+/// none past the last.
 #[test]
 fn values_and_votes_are_told(rt: HostRuntime) {
     play(&rt, rt.alloc(), 3, STEPS);

@@ -7,8 +7,8 @@ use crate::steps::{Step, play};
 use node::NodeFault;
 use site_ids::MAX_ROUND;
 
-/// Each value is tried once, from the least free instance on, all with one round and one prepare. A tick takes the
-/// oldest value, and sends the others' messages again, by instance: each prepare of one.
+/// Each value is tried once, from the least free instance on, all with one round and one prepare. A tick
+/// takes the oldest value, and sends the others' messages again, by instance: each prepare of one.
 const THREE_VALUES: &[Step] = &[
     Step::Widens(Ok(false)),
     Step::Queues(1, 3),

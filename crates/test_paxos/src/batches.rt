@@ -1,5 +1,5 @@
-//! Batches: all of one stands or none of it, whichever call of its seal fails and whatever a crash chooses. Their bytes are
-//! those of single puts, after their sum.
+//! Batches: all of one stands or none of it, whichever call of its seal fails and whatever a crash chooses.
+//! Their bytes are those of single puts, after their sum.
 use crate::changes::with_byte;
 use crate::comparing::{ensure, same};
 use crate::damage::is_of;
@@ -16,7 +16,8 @@ use site_ids::Instance;
 use std::alloc::Global;
 use std::process::Abort;
 
-/// How many calls of a seal pass, what the crash chooses, if there is one, and then the file's length and whether the batch stands.
+/// How many calls of a seal pass, what the crash chooses, if there is one, and then the file's length and
+/// whether the batch stands.
 const CRASHES: &[(u32, Option<u8>, u64, bool)] = &[
     (0, None, 11, false),
     (0, Some(0), 11, false),
@@ -71,8 +72,8 @@ const THE_FIRST: [u8; 71] =
 const TWICE: [u8; 89] =
     *b"SITEREC1\x02\x03\x01\x00\x00\x00\x0d\x18\x00\x00\x00\x0a\x9a\xd4\x91\x0b\xa7`7;\x01\x00\x00\x00\x05\x01\x00\x00\x00\x01\x01\x00\x00\x00\x0a\x02\x00\x00\x00\x01\x00\x00\x00\x01\x01\x01\x00\x00\x00\x0d\x18\x00\x00\x00\x11\x89\x04\xd1\xc0\x01d\x07U\x01\x00\x00\x00\x0c\x03\x00\x00\x00\x01\x00\x00\x00\x02\x01ab\x00";
 
-/// Steps that write the entries of `RECORD`, the bytes, and how many writes and syncs there are then, an opening's among
-/// them.
+/// Steps that write the entries of `RECORD`, the bytes, and how many writes and syncs there are then, an
+/// opening's among them.
 const WRITERS: &[(&[Step], &[u8], usize)] = &[
     (THREE, &RECORD, 13),
     (IN_ONE_BATCH, &SUMMED, 5),

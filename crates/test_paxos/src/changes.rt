@@ -1,9 +1,11 @@
 //! The entries that are spelled as another one but for one byte.
 //!
-//! An entry is spelled by its length, its kind, numbers of fixed lengths and, of a vote and of what was learned, its value. Where the byte stands
-//! in the length, the other entry has a beginning of the value, since nothing stands behind the last one; in the kind, it is the other one of a
-//! promise and a vote for the empty value, or of a round and a floor, a vote for one byte in place of a span's promise, or a learned value in place
-//! of any of these; and else in a number or the value. No record here has a vote for one byte, or a learned value of none or of more than two.
+//! An entry is spelled by its length, its kind, numbers of fixed lengths and, of a vote and of what was
+//! learned, its value. Where the byte stands in the length, the other entry has a beginning of the value,
+//! since nothing stands behind the last one; in the kind, it is the other one of a promise and a vote for the
+//! empty value, or of a round and a floor, a vote for one byte in place of a span's promise, or a learned
+//! value in place of any of these; and else in a number or the value. No record here has a vote for one byte,
+//! or a learned value of none or of more than two.
 use crate::samples::value;
 use site_ids::{Ballot, Cluster, Instance, Value, Vote};
 use std::alloc::Global;
@@ -173,8 +175,8 @@ pub fn changed(
     }
 }
 
-/// The vote for one byte that is spelled as the promise of a span but for its kind: the count is the first byte of its round, the last byte of
-/// the promised round its node, and the promised node its value.
+/// The vote for one byte that is spelled as the promise of a span but for its kind: the count is the first
+/// byte of its round, the last byte of the promised round its node, and the promised node its value.
 fn vote_in_span(
     rt: &impl Abort,
     alloc: Global,
@@ -208,7 +210,8 @@ fn learned_of(
     Entry::Learned(instance, value(rt, alloc, &bytes))
 }
 
-/// The learned value that is spelled as another entry but for its kind: its instance is the entry's, or its round, and what stands behind that is its value.
+/// The learned value that is spelled as another entry but for its kind: its instance is the entry's, or its
+/// round, and what stands behind that is its value.
 fn learned_in(rt: &impl Abort, alloc: Global, entry: &Entry) -> Option<Entry> {
     Some(match entry {
         Entry::Round(round) => learned_of(rt, alloc, Instance::new(*round)?, b"", b""),
@@ -261,8 +264,10 @@ fn other_of_vote(
     }
 }
 
-/// The entries that take an entry's place with another length or kind, by number from 0 on: of a vote those above, of a promise the vote for the
-/// empty value, of a span's a vote for one byte, of a learned value its beginnings, of a round a floor, of a floor a round. Last comes the learned value that is spelled so, where that is another.
+/// The entries that take an entry's place with another length or kind, by number from 0 on: of a vote those
+/// above, of a promise the vote for the empty value, of a span's a vote for one byte, of a learned value its
+/// beginnings, of a round a floor, of a floor a round. Last comes the learned value that is spelled so, where
+/// that is another.
 pub fn other(
     rt: &impl Abort,
     alloc: Global,

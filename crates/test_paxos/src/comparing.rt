@@ -1,4 +1,5 @@
-//! What came, compared with what was wanted: a call of these is far cheaper to prove than an `assert_eq!`, or an `assert!` with words, in the caller.
+//! What came, compared with what was wanted: a call of these is far cheaper to prove than an `assert_eq!`, or
+//! an `assert!` with words, in the caller.
 use std::fmt::Debug;
 use std::process::Abort;
 

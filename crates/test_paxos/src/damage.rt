@@ -1,4 +1,5 @@
-//! A record cut at each byte, and with each byte changed. What these bytes come to is computed from the definition of a record.
+//! A record cut at each byte, and with each byte changed. What these bytes come to is computed from the
+//! definition of a record.
 use crate::changes::with_byte;
 use crate::comparing::{ensure, same};
 use crate::listed::{
@@ -16,8 +17,8 @@ use test_record::entry::Entry;
 use test_record::recorded::{self, floor, greatest_round, is_slot, last_round, last_vote, reach};
 use test_record::standing::{refusal, stands_plainly_for};
 
-/// Worked out by hand: a place, a byte there, and of the history for which the record then stands, if it does, how many entries it has, the
-/// last round, and the value that is voted for at instance 1.
+/// Worked out by hand: a place, a byte there, and of the history for which the record then stands, if it
+/// does, how many entries it has, the last round, and the value that is voted for at instance 1.
 const LISTED: &[(usize, u8, Option<(usize, u32, &str)>)] = &[
     (9, 0, None),
     (11, 1, None),
@@ -38,8 +39,9 @@ const LISTED: &[(usize, u8, Option<(usize, u32, &str)>)] = &[
     (52, 2, Some((3, 1, "ab"))),
 ];
 
-/// How many histories are listed, worked out by hand too. At each of the four gates each byte but 1; in each of the three kinds that of a learned
-/// value, in the first that of a floor; in a number each byte but its own, less those with which it is 0 or an instance above 1,000,000; and a promise's ballot only up to that
+/// How many histories are listed, worked out by hand too. At each of the four gates each byte but 1; in each
+/// of the three kinds that of a learned value, in the first that of a floor; in a number each byte but its
+/// own, less those with which it is 0 or an instance above 1,000,000; and a promise's ballot only up to that
 /// of the vote behind it.
 const COUNT: usize = 4 * 255
     + (3 + 1)
@@ -55,8 +57,8 @@ const COUNT: usize = 4 * 255
     + 2
     + 2 * 255;
 
-/// And with the record of a span. At its two gates each byte but 1; in the kind the one of a vote for a byte, and that of a learned value; each
-/// count from 2 to 64 but its own.
+/// And with the record of a span. At its two gates each byte but 1; in the kind the one of a vote for a byte,
+/// and that of a learned value; each count from 2 to 64 but its own.
 const SPANNED_COUNT: usize = 2 * 255
     // The kind, the first instance, the count, the ballot.
     + 2
@@ -65,10 +67,12 @@ const SPANNED_COUNT: usize = 2 * 255
     + (3 * 255 + 254)
     + 2;
 
-/// And with the record of a learned value. At its two gates each byte but 1; the two shorter lengths; the instance, the value.
+/// And with the record of a learned value. At its two gates each byte but 1; the two shorter lengths; the
+/// instance, the value.
 const LEARNED_COUNT: usize = 2 * 255 + 2 + (15 + 255 + 254) + 2 * 255;
 
-/// And with the record of a floor. At its two gates each byte but 1; the kinds of a round and of a learned value; the instance.
+/// And with the record of a floor. At its two gates each byte but 1; the kinds of a round and of a learned
+/// value; the instance.
 const FLOORED_COUNT: usize = 2 * 255 + 2 + (15 + 255 + 254);
 
 /// Whether the record tells as learned what a history has so.
@@ -125,7 +129,8 @@ fn tells_reach(record: &Record<MemDisk>, history: &[Entry]) -> bool {
     record.floor() == floor(history) && record.reach() == reach(history)
 }
 
-/// Whether the record tells the rounds, the floor, the slots of the first three instances, of which a history here names two at most, and those that it names.
+/// Whether the record tells the rounds, the floor, the slots of the first three instances, of which a history
+/// here names two at most, and those that it names.
 fn tells(rt: &impl Abort, record: &Record<MemDisk>, history: &[Entry]) -> bool {
     record.round() == last_round(history)
         && record.greatest_round() == greatest_round(history)
@@ -312,7 +317,8 @@ impl<'a> OneBatch<'a> {
     }
 }
 
-/// What becomes of the record if the byte at a place has one other bit: how many entries are read, or the refusal.
+/// What becomes of the record if the byte at a place has one other bit: how many entries are read, or the
+/// refusal.
 fn flipped(batch: OneBatch<'_>, place: usize, byte: u8) -> Result<usize, RecordFault> {
     match place {
         0..8 => Err(RecordFault::NotARecord),
@@ -391,8 +397,8 @@ fn flip_each(rt: &impl Abort, alloc: Global, batch: OneBatch<'_>, entries: Vec<E
     drop(entries);
 }
 
-/// No bit of what a sum covers can be another without being noticed, no length and no gate among them, nor one of the sum
-/// itself. A sum's gate that is shut ends the list, as ever.
+/// No bit of what a sum covers can be another without being noticed, no length and no gate among them, nor
+/// one of the sum itself. A sum's gate that is shut ends the list, as ever.
 #[test]
 fn a_record_with_a_sum_and_each_bit_flipped(rt: HostRuntime) {
     let alloc = rt.alloc();

@@ -1,4 +1,5 @@
-//! Calls of a disk, and what they came to. Their contracts are long: here each stands alone, and nothing is promised of it.
+//! Calls of a disk, and what they came to. Their contracts are long: here each stands alone, and nothing is
+//! promised of it.
 use site_disk::{Armed, Disk, FailOnce, MemDisk};
 
 /// The file is so long.

@@ -53,7 +53,8 @@ fn an_opening_settles_the_entry_in_flight(rt: HostRuntime) {
     }
 }
 
-/// A call that failed did nothing, and the one behind it is as ever. A call that the disk under it fails counts too.
+/// A call that failed did nothing, and the one behind it is as ever. A call that the disk under it fails
+/// counts too.
 fn check_calls(rt: &impl Abort, disk: &mut FailOnce<MemDisk>) {
     disk.arm(1);
     ensure(rt, is_long(disk, 3), 3);

@@ -49,7 +49,8 @@ fn has_failed(rt: &impl Abort, disk: &FileDisk, count: u64, kind: Option<ErrorKi
     ensure(rt, last == kind, count);
 }
 
-/// A read past the end fails, and no call did before; what the system said of it stays when calls succeed again.
+/// A read past the end fails, and no call did before; what the system said of it stays when calls succeed
+/// again.
 fn check_disk(rt: &impl Abort, mut disk: FileDisk) {
     has_failed(rt, &disk, 0, None);
     ensure(rt, !reads(&mut disk, 0, &mut [0; 22]), 22);
@@ -58,8 +59,8 @@ fn check_disk(rt: &impl Abort, mut disk: FileDisk) {
     drop(disk);
 }
 
-/// A disk whose file is open for reading alone refuses each write, and keeps why. It gets no longer, which is no
-/// failure.
+/// A disk whose file is open for reading alone refuses each write, and keeps why. It gets no longer, which is
+/// no failure.
 fn check_read_only(rt: &impl Abort, file: File) {
     let mut disk = FileDisk::new(file);
     ensure(rt, !lengthens(&mut disk, 21, b"x"), 21);

@@ -48,7 +48,8 @@ fn a_file_with_bytes_is_left(rt: HostRuntime) {
     leaves(&rt, &mut disk_of(&rt, rt.alloc(), &ONE_ROUND));
 }
 
-/// The floor promises nothing, is no vote, counts for no round. Votes above it reach further, what is learned or promised does not.
+/// The floor promises nothing, is no vote, counts for no round. Votes above it reach further, what is learned
+/// or promised does not.
 const ABOVE: &[Step] = &[
     Step::Floor(65),
     Step::Reach(65),
@@ -125,7 +126,8 @@ fn a_batch_reaches_once_it_is_sealed(rt: HostRuntime) {
     play(&rt, alloc, disk, &[Step::Reach(0)], &[Step::Reach(0)]);
 }
 
-/// Records of node 2 of three, and why they are refused: behind a round, twice, as 0, as 1,000,001 and 1,000,000, a byte short and one too long.
+/// Records of node 2 of three, and why they are refused: behind a round, twice, as 0, as 1,000,001 and
+/// 1,000,000, a byte short and one too long.
 const FLOORS: &[(&[u8], Option<RecordFault>)] = &[
     (&FLOORED, None),
     (&SUMMED_FLOOR, None),
@@ -166,7 +168,8 @@ fn a_floor_is_the_first_entry_and_an_instance(rt: HostRuntime) {
     }
 }
 
-/// How many calls pass, what the crash chooses, or none, and then the file's length, and whether it opens, with the floor.
+/// How many calls pass, what the crash chooses, or none, and then the file's length, and whether it opens,
+/// with the floor.
 const INTERRUPTED: &[(u32, Option<u8>, u64, bool)] = &[
     (0, None, 0, false),
     (1, Some(1), 0, false),
@@ -221,7 +224,8 @@ fn each_call_of_a_format_fails(rt: HostRuntime) {
     }
 }
 
-/// Whatever a crash chooses behind a format that a call of the disk ended, it leaves no record, or one with the floor.
+/// Whatever a crash chooses behind a format that a call of the disk ended, it leaves no record, or one with
+/// the floor.
 fn is_none_or_floor(rt: &impl Abort, alloc: Global, calls: u32, choice: u8) {
     let mut disk = interrupted(rt, alloc, calls);
     disk.crash(choice);

@@ -10,7 +10,8 @@ use site_disk::MemDisk;
 use std::alloc::Global;
 use std::process::Abort;
 
-/// How many calls of a put pass, what the crash chooses, and then the file's length and whether the value is kept.
+/// How many calls of a put pass, what the crash chooses, and then the file's length and whether the value is
+/// kept.
 const CRASHES: &[(u32, u8, u64, bool)] = &[
     (0, 0, 11, false),
     (0, 7, 11, false),

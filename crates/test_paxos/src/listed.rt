@@ -12,13 +12,13 @@ use test_record::history::is_history;
 use test_record::spelling::spelled;
 use test_record::standing::stands_plainly_for;
 
-/// The record of node 2 of 3. At 10 the gate of round 1, at 20 that of the promise of (1, 1) at instance 1, at 35 that of the vote for `ab` at (2, 1)
-/// there, at 52 the last gate.
+/// The record of node 2 of 3. At 10 the gate of round 1, at 20 that of the promise of (1, 1) at instance 1,
+/// at 35 that of the vote for `ab` at (2, 1) there, at 52 the last gate.
 pub const RECORD: [u8; 53] =
     *b"SITEREC1\x02\x03\x01\x00\x00\x00\x05\x01\x00\x00\x00\x01\x01\x00\x00\x00\x0a\x02\x00\x00\x00\x01\x00\x00\x00\x01\x01\x01\x00\x00\x00\x0c\x03\x00\x00\x00\x01\x00\x00\x00\x02\x01ab\x00";
 
-/// The same as a batch writes it, after the sum of its entries: at 10 the gate of the sum, at 28 that of the first entry, at 70
-/// the last gate.
+/// The same as a batch writes it, after the sum of its entries: at 10 the gate of the sum, at 28 that of the
+/// first entry, at 70 the last gate.
 pub const SUMMED: [u8; 71] =
     *b"SITEREC1\x02\x03\x01\x00\x00\x00\x0d\x18\x00\x00\x00*`\x9a\xe6Ms\x1e$\x0d\x01\x00\x00\x00\x05\x01\x00\x00\x00\x01\x01\x00\x00\x00\x0a\x02\x00\x00\x00\x01\x00\x00\x00\x01\x01\x01\x00\x00\x00\x0c\x03\x00\x00\x00\x01\x00\x00\x00\x02\x01ab\x00";
 
@@ -34,7 +34,8 @@ pub fn entries(rt: &impl Abort, alloc: Global) -> Vec<Entry> {
     entries
 }
 
-/// The record of node 2 of 3 whose one entry is the promise of (1, 1) at the three instances from 5 on. At 10 its gate, at 26 the last one.
+/// The record of node 2 of 3 whose one entry is the promise of (1, 1) at the three instances from 5 on. At 10
+/// its gate, at 26 the last one.
 pub const SPANNED: [u8; 27] =
     *b"SITEREC1\x02\x03\x01\x00\x00\x00\x0b\x04\x00\x00\x00\x05\x03\x00\x00\x00\x01\x01\x00";
 
@@ -50,7 +51,8 @@ pub fn spanned(rt: &impl Abort, alloc: Global) -> Vec<Entry> {
 pub const SPANNED_SUMMED: [u8; 45] =
     *b"SITEREC1\x02\x03\x01\x00\x00\x00\x0d\x18\x00\x00\x00\x10\xb3$\x04i\x888\xa2\x0e\x01\x00\x00\x00\x0b\x04\x00\x00\x00\x05\x03\x00\x00\x00\x01\x01\x00";
 
-/// The record of node 2 of 3 whose one entry is `ab`, learned at instance 1. At 10 its gate, at 22 the last one.
+/// The record of node 2 of 3 whose one entry is `ab`, learned at instance 1. At 10 its gate, at 22 the last
+/// one.
 pub const LEARNED: [u8; 23] = *b"SITEREC1\x02\x03\x01\x00\x00\x00\x07\x06\x00\x00\x00\x01ab\x00";
 
 /// The same after the sum of its entry: at 10 the gate of the sum, at 40 the last one.
@@ -68,8 +70,8 @@ pub fn learned(rt: &impl Abort, alloc: Global) -> Vec<Entry> {
 /// A record of node 2 of 3 whose one entry is a floor, 65, without a sum. At 10 its gate, at 20 the last one.
 pub const FLOORED: [u8; 21] = *b"SITEREC1\x02\x03\x01\x00\x00\x00\x05\x05\x00\x00\x00\x41\x00";
 
-/// The same as it is made in the place of a lost record, after the sum of the floor: at 10 the gate of the sum, at 28 that of
-/// the floor, at 38 the last one.
+/// The same as it is made in the place of a lost record, after the sum of the floor: at 10 the gate of the
+/// sum, at 28 that of the floor, at 38 the last one.
 pub const SUMMED_FLOOR: [u8; 39] =
     *b"SITEREC1\x02\x03\x01\x00\x00\x00\x0d\x18\x00\x00\x00\x0a\xc7\xe7\xa5\x8cq\xc5\xf6$\x01\x00\x00\x00\x05\x05\x00\x00\x00\x41\x00";
 
@@ -175,8 +177,8 @@ impl<'a> Listed<'a> {
         }
     }
 
-    /// Lists these entries, which are spelled so, at the first byte by which that differs from the record, or else at each byte in the place of the
-    /// gate behind it.
+    /// Lists these entries, which are spelled so, at the first byte by which that differs from the record, or
+    /// else at each byte in the place of the gate behind it.
     fn list_spelled(&mut self, rt: &impl Abort, bytes: &[u8], entries: &[Entry]) {
         match first_other(self.record, bytes) {
             Some((place, byte)) => self.list_at(rt, place, byte, entries),

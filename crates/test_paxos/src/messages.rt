@@ -1,4 +1,5 @@
-//! Messages as datagrams, by rows in hexadecimal; verdicts of an acceptor; names of nodes, instances and ballots.
+//! Messages as datagrams, by rows in hexadecimal; verdicts of an acceptor; names of nodes, instances and
+//! ballots.
 use crate::comparing::{ensure, same};
 use crate::samples::{ballot, cluster, instance, is_text, node, push, vote};
 use acceptor::{PrepareVerdict, ProposeVerdict, Slot, judge_prepare, judge_propose};

@@ -1,8 +1,9 @@
 //! Each call with one growth refused: it answers as ever, or memory was refused, nothing has changed, and the
 //! next try answers as ever.
 //!
-//! All is tried twice, since a second program, `tools/gate/refuse-growths`, runs each test once for each growth of
-//! its memory and refuses that one: the first try meets it, the second does not. Alone a test is refused nothing.
+//! All is tried twice, since a second program, `tools/gate/refuse-growths`, runs each test once for each
+//! growth of its memory and refuses that one: the first try meets it, the second does not. Alone a test is
+//! refused nothing.
 use crate::comparing::{ensure, same};
 use crate::member::{Member, Sent, is_made, is_resent, is_sent, three_values};
 use crate::messages::is_written;
@@ -231,7 +232,8 @@ fn format(alloc: Global, cluster: Cluster, node: NodeId) -> Option<MemDisk> {
     }
 }
 
-/// An empty record's disk. A growth that was refused leaves a beginning of it behind, so it is made on another disk then.
+/// An empty record's disk. A growth that was refused leaves a beginning of it behind, so it is made on
+/// another disk then.
 fn formatted(rt: &impl Abort, alloc: Global) -> MemDisk {
     let (cluster, node) = one_of_three(rt, 2);
     match format(alloc, cluster, node) {

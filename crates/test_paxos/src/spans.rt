@@ -11,7 +11,8 @@ use site_ids::MAX_INSTANCE;
 use std::alloc::Global;
 use std::process::Abort;
 
-/// How many calls of a put pass, what the crash chooses, and then the file's length and whether the promise is kept.
+/// How many calls of a put pass, what the crash chooses, and then the file's length and whether the promise
+/// is kept.
 const CRASHES: &[(u32, u8, u64, bool)] = &[
     (0, 0, 11, false),
     (0, 1, 11, false),

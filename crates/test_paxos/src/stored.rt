@@ -185,7 +185,8 @@ fn rising<D: Disk>(
     count: u8,
     ballot: Ballot,
 ) -> Option<Instance>
-    ensures { IfSome result (λ at. IsInSpan first count at × IsFreeBelow (slot_at store.now.recorded.slots at).promised ballot) }
+    ensures { IfSome result (λ at. IsInSpan first count at
+        × IsFreeBelow (slot_at store.now.recorded.slots at).promised ballot) }
 {
     for past in 0..count {
         if let Some(at) = Instance::new(first.number() + past as u32) {
@@ -197,7 +198,8 @@ fn rising<D: Disk>(
     None
 }
 
-/// Puts the promise of a span of two or more. `NotARecord` where it is none, or an acceptor would promise at none of its instances.
+/// Puts the promise of a span of two or more. `NotARecord` where it is none, or an acceptor would promise at
+/// none of its instances.
 pub fn put_span<D: Disk>(
     record: &mut Record<D>,
     first: Instance,

@@ -74,7 +74,8 @@ fn is_above(earlier: &[Entry], at: Instance, ballot: Ballot) -> bool
 /// Whether that is so at one of so many instances, from one on.
 fn rises(earlier: &[Entry], first: Instance, count: u8, ballot: Ballot) -> bool
     requires { IsSpan first count }
-    ensures { IsTrue result ↔ ((at : ℕ) × IsInSpan first count at × IsAbove (meanings earlier.now) at ballot) }
+    ensures { IsTrue result ↔ ((at : ℕ) × IsInSpan first count at
+        × IsAbove (meanings earlier.now) at ballot) }
 {
     let mut past = 0;
     while past < count {

@@ -3,7 +3,9 @@
 ghost use Rattle.std.specs.Prelude.{◌≡◌, ◌↔◌, ◌∷◌, ◌++◌, [], List, IsTrue, option_copied};
 ghost use Rattle.acceptor.specs.Judging.{IsFreeAt};
 ghost use Rattle.durable.specs.Entries as entries;
-ghost use Rattle.durable.specs.Entries.{IsPromise, IsSlot, last_round as last_round_of, greatest_round as greatest_round_of, last_vote as last_vote_of, learned_at, floor_of, reach_of};
+ghost use Rattle.durable.specs.Entries.{IsPromise, IsSlot, last_round as last_round_of};
+ghost use Rattle.durable.specs.Entries.{greatest_round as greatest_round_of, last_vote as last_vote_of};
+ghost use Rattle.durable.specs.Entries.{learned_at, floor_of, reach_of};
 ghost use Rattle.test_record.specs.Meaning.{meaning, meanings};
 
 use crate::entry::Entry;
@@ -52,7 +54,8 @@ pub fn is_free_at(promised: &Option<Ballot>, ballot: Ballot) -> bool
 
 /// The greatest ballot, with one entry more.
 fn promise_with(promised: Option<Ballot>, entry: &Entry, instance: Instance) -> Option<Ballot>
-    ensures { (earlier : List entries.Entry) → IsPromise earlier instance promised → IsPromise (earlier ++ meaning entry.now ∷ []) instance result }
+    ensures { (earlier : List entries.Entry) → IsPromise earlier instance promised
+        → IsPromise (earlier ++ meaning entry.now ∷ []) instance result }
 {
     let Some(ballot) = entry.raised(instance) else {
         return promised;
@@ -114,7 +117,8 @@ pub fn floor(entries: &[Entry]) -> u32
     }
 }
 
-/// How far the entries reach: the greatest instance of a vote, or the floor where that is greater; 0 where there are neither.
+/// How far the entries reach: the greatest instance of a vote, or the floor where that is greater; 0 where
+/// there are neither.
 pub fn reach(entries: &[Entry]) -> u32
     ensures { result ≡ reach_of (meanings entries.now) }
 {

@@ -1,6 +1,7 @@
 //! What a file stands for, and why it is refused.
 
-ghost use Rattle.std.specs.Prelude.{◌≡◌, ◌≢◌, ◌⊎◌, ◌↔◌, ◌++◌, ℕ, List, IsTrue, IfOk, MatchOption, length, ◌≤◌};
+ghost use Rattle.std.specs.Prelude.{◌≡◌, ◌≢◌, ◌⊎◌, ◌↔◌, ◌++◌, ℕ, List, IsTrue, IfOk, MatchOption, length};
+ghost use Rattle.std.specs.Prelude.{◌≤◌};
 ghost use Rattle.durable.specs.Items.{puts};
 ghost use Rattle.durable.specs.Standing.{IsLaid, IsNoRecord, IsOfAnother, IsDamaged, IsRefusal};
 ghost use Rattle.test_record.specs.Meaning.{meanings};
@@ -15,7 +16,8 @@ use std::alloc::{AllocError, Global};
 
 /// What follows the front of a file.
 fn behind<'a>(file: &'a [u8], front: &[u8]) -> Option<&'a [u8]>
-    ensures { MatchOption result ((rest : List ℕ) → file.now ≢ front.now ++ rest) (λ rest. file.now ≡ front.now ++ rest.now) }
+    ensures { MatchOption result ((rest : List ℕ) → file.now ≢ front.now ++ rest)
+        (λ rest. file.now ≡ front.now ++ rest.now) }
 {
     file.strip_prefix(front)
 }
@@ -39,7 +41,8 @@ pub fn stands_plainly_for(
     file: &[u8],
     entries: &[Entry],
 ) -> Result<bool, AllocError>
-    ensures { IfOk result (λ stands. IsTrue stands ↔ IsLaid node cluster file.now (puts (meanings entries.now))) }
+    ensures { IfOk result (λ stands. IsTrue stands
+        ↔ IsLaid node cluster file.now (puts (meanings entries.now))) }
 {
     if !is_history(cluster, entries) {
         return Ok(false);
@@ -64,7 +67,8 @@ fn is_of_another(cluster: Cluster, node: NodeId, file: &[u8]) -> bool
 /// Why a file that stands for no entries is refused.
 pub fn refusal(cluster: Cluster, node: NodeId, file: &[u8]) -> RecordFault
     ensures refused { IsDamaged node cluster file.now → IsRefusal result node cluster file.now }
-    ensures of_bytes { (result ≡ RecordFault.NotARecord) ⊎ ((result ≡ RecordFault.WrongNode) ⊎ (result ≡ RecordFault.Damaged)) }
+    ensures of_bytes { (result ≡ RecordFault.NotARecord)
+        ⊎ ((result ≡ RecordFault.WrongNode) ⊎ (result ≡ RecordFault.Damaged)) }
 {
     if is_no_record(file) {
         RecordFault::NotARecord

@@ -18,8 +18,8 @@ pub(crate) const MANY: &[bool] = &[
     false, true, false, false, false, false, false, true, false,
 ];
 
-/// A message of that kind from a server, about an instance whose value has a hundred bytes: with this ballot, or
-/// with none.
+/// A message of that kind from a server, about an instance whose value has a hundred bytes: with this ballot,
+/// or with none.
 pub(crate) fn message(
     rt: &impl Abort,
     alloc: Global,
@@ -143,9 +143,9 @@ pub(crate) fn votes(rt: &impl Abort, group: &mut Group, number: u8, count: u32, 
     same(rt, (number, server.served.node.known()), (number, count));
 }
 
-/// How many servers there are, how many milliseconds a letter takes, how many lie between passes, how many values
-/// all but the last one know; and after how many milliseconds each shows the release that was submitted to the
-/// last one, at most.
+/// How many servers there are, how many milliseconds a letter takes, how many lie between passes, how many
+/// values all but the last one know; and after how many milliseconds each shows the release that was
+/// submitted to the last one, at most.
 type Pending = (u8, u64, u64, u32, u64);
 
 const PENDING: &[Pending] = &[

@@ -6,7 +6,8 @@ use site_ids::Cluster;
 use std::alloc::Global;
 use std::process::Abort;
 
-/// How many nodes there are, in whose place a record is made, what is told; and the floor, or why there is none.
+/// How many nodes there are, in whose place a record is made, what is told; and the floor, or why there is
+/// none.
 type Row = (u8, u8, &'static [&'static str], Result<u32, FloorFault>);
 
 const ROWS: &[Row] = &[

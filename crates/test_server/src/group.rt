@@ -101,7 +101,8 @@ pub(crate) fn is_seated(
     is
 }
 
-/// What was packed goes to a node: as it is, or where that is due as a packet, which one that reads none gets beside it.
+/// What was packed goes to a node: as it is, or where that is due as a packet, which one that reads none gets
+/// beside it.
 fn push_packed(
     rt: &impl Abort,
     alloc: Global,

@@ -2,7 +2,8 @@
 use crate::comparing::same;
 use server_pace::{Keeping, Times};
 
-/// How many instances were kept and since when more are known, the moment, how many are known; and since when more are then.
+/// How many instances were kept and since when more are known, the moment, how many are known; and since when
+/// more are then.
 const NOTED: &[(u32, Option<u64>, u64, u32, Option<u64>)] = &[
     (0, None, 9, 0, None),
     (0, None, 9, 1, Some(9)),
@@ -24,7 +25,8 @@ fn what_is_known_waits_to_be_kept(rt: HostRuntime) {
     }
 }
 
-/// How many instances were kept and since when more are known, the moment, how many are known; and from which instance on how many are kept next.
+/// How many instances were kept and since when more are known, the moment, how many are known; and from which
+/// instance on how many are kept next.
 const NEXT: &[(u32, Option<u64>, u64, u32, Option<(u32, u32)>)] = &[
     (0, None, 9000, 0, None),
     (0, Some(1000), 1099, 1, None),

@@ -1,5 +1,5 @@
-//! Servers without sockets and clock: the rules of their waiting as tables, seats, and groups joined in memory by scripts. `programs` has the other
-//! programs' engines and the command lines.
+//! Servers without sockets and clock: the rules of their waiting as tables, seats, and groups joined in
+//! memory by scripts. `programs` has the other programs' engines and the command lines.
 #![tactic(auto)]
 
 #[cfg(test)]

@@ -29,7 +29,8 @@ fn all_stand(rt: &impl Abort, group: &mut Group, size: u8, away: &[u8], known: u
     }
 }
 
-/// A group of so many, one of which is away while values are published, and then learns them from the others; and then all lose power.
+/// A group of so many, one of which is away while values are published, and then learns them from the others;
+/// and then all lose power.
 fn cut_behind(rt: &impl Abort, alloc: Global, size: u8, away: u8) -> Group {
     let mut group = Group::new(rt, alloc, size);
     let at = if away == 1 { 2 } else { 1 };

@@ -6,8 +6,8 @@ use site_ids::Cluster;
 use std::alloc::Global;
 use std::process::Abort;
 
-/// The moment of a pass, in milliseconds; how many values are known; whose datagrams came; how many of them were no message, how many connections were closed for
-/// others, and whether clients wait; and what is said.
+/// The moment of a pass, in milliseconds; how many values are known; whose datagrams came; how many of them
+/// were no message, how many connections were closed for others, and whether clients wait; and what is said.
 type Pass = (
     u64,
     u32,
@@ -145,7 +145,8 @@ const TOLD_ITSELF: &[Pass] = &[(
     ],
 )];
 
-/// Of node 1 of three that hears both, over a record of seven votes: the moment, how many values are known, how far what it heard of reaches, and what is said.
+/// Of node 1 of three that hears both, over a record of seven votes: the moment, how many values are known,
+/// how far what it heard of reaches, and what is said.
 type Behind = (u64, u32, u32, &'static [&'static str]);
 
 /// Few values become known, and far more is heard of.
@@ -304,7 +305,8 @@ fn a_release_and_what_comes_first_after_it_have_a_line(rt: HostRuntime) {
     }
 }
 
-/// Of node 1 of one, over a new record: the moment, and what is said. Its record has as many bytes as milliseconds have passed.
+/// Of node 1 of one, over a new record: the moment, and what is said. Its record has as many bytes as
+/// milliseconds have passed.
 const HOURS: &[(u64, &[&str])] = &[
     (
         0,

@@ -96,7 +96,8 @@ fn greater_numbers_wait_longer(rt: HostRuntime) {
     }
 }
 
-/// Whether a tick is wanted, since when it was, whether anything but questions came, and whether a value is fresh.
+/// Whether a tick is wanted, since when it was, whether anything but questions came, and whether a value is
+/// fresh.
 const FRESH: &[(bool, Option<u64>, bool, bool)] = &[
     (true, None, false, true),
     (true, None, true, false),
@@ -300,7 +301,8 @@ fn who_has_no_stake_leaves_it_to_the_others(rt: HostRuntime) {
     }
 }
 
-/// How many ticks were due, how many patiences longer it waits, whether the server has a stake; the moment, and whether a tick is due that is waited for since 1000, of a patience of 150 milliseconds.
+/// How many ticks were due, how many patiences longer it waits, whether the server has a stake; the moment,
+/// and whether a tick is due that is waited for since 1000, of a patience of 150 milliseconds.
 const LONGER: &[(u32, u32, bool, u64, bool)] = &[
     (0, 0, true, 1150, true),
     (0, 0, false, 2649, false),
@@ -367,7 +369,8 @@ fn a_tick_that_a_majority_answers_in_vain_is_counted(rt: HostRuntime) {
     }
 }
 
-/// What came (anything, a response, messages that are no questions), empty steps, how many microseconds are rested, and empty steps then.
+/// What came (anything, a response, messages that are no questions), empty steps, how many microseconds are
+/// rested, and empty steps then.
 const RESTS: &[(bool, bool, bool, u32, Option<u64>, u32)] = &[
     (false, false, false, 0, Some(0), 1),
     (false, false, false, 15, Some(0), 16),
@@ -416,7 +419,8 @@ fn who_tells_rests_for_a_short_time(rt: HostRuntime) {
     }
 }
 
-/// Whether anything came, whether a response was written, how many such steps follow one another, and what each of them rests.
+/// Whether anything came, whether a response was written, how many such steps follow one another, and what
+/// each of them rests.
 const STEPS: &[(bool, bool, u32, Option<u64>)] = &[
     (false, false, 3, Some(20_000)),
     (true, false, 2, None),

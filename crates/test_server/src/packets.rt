@@ -85,8 +85,8 @@ fn packets_that_came_are_opened(rt: HostRuntime) {
     }
 }
 
-/// The bytes of a first datagram, those of a second one, and whether they go together: 1,400 bytes are the most, with five before the first and four before
-/// the second.
+/// The bytes of a first datagram, those of a second one, and whether they go together: 1,400 bytes are the
+/// most, with five before the first and four before the second.
 const ROOM: &[(usize, usize, bool)] = &[
     (1000, 391, true),
     (1000, 392, false),
@@ -116,7 +116,8 @@ fn a_packet_has_a_bound(rt: HostRuntime) {
 /// How many letters go into a packet, and its bytes; none of an empty one.
 type Packed = (usize, Option<usize>);
 
-/// Letters: whom each is for, 0 for all, and of how many bytes; and what goes into the first packet for node 2.
+/// Letters: whom each is for, 0 for all, and of how many bytes; and what goes into the first packet for node
+/// 2.
 const PACKINGS: &[(&[(u8, usize)], Packed)] = &[
     (&[], (0, None)),
     (&[(1, 9), (3, 9)], (2, None)),
@@ -222,7 +223,8 @@ const PIECES: &[(&[u8], u64)] = &[
     (&[3, 0, 0, 0, 9, 1, 6, 1, 0, 0, 0, 1], 1),
 ];
 
-/// A server takes in a piece, and a step of it tells how many datagrams spelled no message; none where it halts.
+/// A server takes in a piece, and a step of it tells how many datagrams spelled no message; none where it
+/// halts.
 fn malformed_in(rt: &impl Abort, server: &mut Boxed, piece: &[u8]) -> Option<u64> {
     server.mail.take_in(piece, 0).expect(rt, "memory");
     match server.step(0) {

@@ -1,4 +1,5 @@
-//! A node that is built by the formats alone, among servers: to it each datagram is one message, and a packet spells none.
+//! A node that is built by the formats alone, among servers: to it each datagram is one message, and a packet
+//! spells none.
 use crate::comparing::{ensure, same};
 use crate::group::{Group, node_of, packed, turn};
 use command::write;
@@ -14,7 +15,8 @@ use std::process::Abort;
 #[derive(Drop)]
 struct Mixed {
     group: Group,
-    // how many packets came between the first two; how many the third was sent, and how many of these held several messages
+    // how many packets came between the first two; how many the third was sent, and how many of these held
+    // several messages
     packets: u32,
     shown: u32,
     several: u32,

@@ -44,9 +44,9 @@ const QUEUED_AND_NONE: &[u8] =
 const QUEUED_AND_UNKNOWN: &[u8] =
     b"HTTP/1.1 202 Accepted\r\nContent-Type: text/plain; charset=utf-8\r\nContent-Length: 7\r\n\r\nqueued\nHTTP/1.1 404 Not Found\r\nContent-Type: text/plain; charset=utf-8\r\nContent-Length: 8\r\n\r\nunknown\n";
 
-/// What a client sends at once, how long a server of its own goes on, and what the client has by then. The bytes
-/// come in the first millisecond. In the second the server begins its attempt. It sends itself four messages, one
-/// in each millisecond; then the receipt is there.
+/// What a client sends at once, how long a server of its own goes on, and what the client has by then. The
+/// bytes come in the first millisecond. In the second the server begins its attempt. It sends itself four
+/// messages, one in each millisecond; then the receipt is there.
 const ROWS: &[(&[u8], u64, &[u8])] = &[
     (ASKS, 100, b""),
     (ASKS, 101, UNKNOWN),
@@ -60,8 +60,8 @@ const ROWS: &[(&[u8], u64, &[u8])] = &[
     (POSTS_AND_ASKS, 100, QUEUED_AND_KNOWN),
 ];
 
-/// The same at a server that hears no majority, so the receipt never comes. What goes before the question is held
-/// back for five milliseconds, if all of the question is there.
+/// The same at a server that hears no majority, so the receipt never comes. What goes before the question is
+/// held back for five milliseconds, if all of the question is there.
 const ALONE: &[(&[u8], u64, &[u8])] = &[
     (POSTS, 1, QUEUED),
     (POSTS_AND_BEGINS_TO_ASK, 1, QUEUED),
@@ -125,8 +125,8 @@ fn a_post_and_its_question_in_pieces(rt: HostRuntime) {
     }
 }
 
-/// Whether the next request asks for a receipt, for how many milliseconds no bytes came, and whether what waits is
-/// held back.
+/// Whether the next request asks for a receipt, for how many milliseconds no bytes came, and whether what
+/// waits is held back.
 const HOLDS: &[(bool, u64, bool)] = &[
     (false, 0, false),
     (false, 4, false),

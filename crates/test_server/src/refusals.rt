@@ -1,8 +1,9 @@
 //! A server with one growth refused: it comes to what it comes to without refusals, or ends for want of
 //! memory; then another one opens over its disk, and comes to it.
 //!
-//! All is tried twice, since a second program, `tools/gate/refuse-growths`, runs each test once for each growth of
-//! its memory and refuses that one: the first try meets it, the second does not. Alone a test is refused nothing.
+//! All is tried twice, since a second program, `tools/gate/refuse-growths`, runs each test once for each
+//! growth of its memory and refuses that one: the first try meets it, the second does not. Alone a test is
+//! refused nothing.
 use crate::client::Client;
 use crate::comparing::{ensure, same};
 use crate::group::{Boxed, fresh, reopened, turn};

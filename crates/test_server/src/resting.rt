@@ -1,4 +1,5 @@
-//! A server that begins: nothing waits and nobody is seated; and how long it rests behind a step, by what it saw.
+//! A server that begins: nothing waits and nobody is seated; and how long it rests behind a step, by what it
+//! saw.
 use crate::comparing::{ensure, same};
 use crate::group::{Boxed, fresh};
 use server::Stepped;
@@ -10,8 +11,8 @@ use std::process::Abort;
 const QUESTION: &[u8] = &[1, 6, 1, 0, 0, 0, 1];
 
 /// What a server that begins saw in a step: whether datagrams came, requests were answered, bytes of clients
-/// moved, and a datagram waits since; how many microseconds it rests after that step, and after the next one, in
-/// which nothing came. It begins quiet; a response wakes it, and so do bytes of a client.
+/// moved, and a datagram waits since; how many microseconds it rests after that step, and after the next one,
+/// in which nothing came. It begins quiet; a response wakes it, and so do bytes of a client.
 const RESTS: &[(bool, bool, bool, bool, Option<u64>, Option<u64>)] = &[
     (false, false, false, false, Some(20_000), Some(20_000)),
     (true, false, false, false, None, Some(20_000)),

@@ -1,4 +1,5 @@
-//! Groups of servers by scripts: posts at each node, a node that was away, a power cut, clients that send a byte at a time.
+//! Groups of servers by scripts: posts at each node, a node that was away, a power cut, clients that send a
+//! byte at a time.
 use crate::comparing::same;
 use crate::group::Group;
 use std::alloc::Global;

@@ -9,8 +9,8 @@ use std::process::Abort;
 
 const GET: &[u8] = b"GET /_newest HTTP/1.1\r\nHost: a\r\n\r\n";
 
-/// Since bytes moved and since the request began, where one did; whether a connection is closed then, without a limit for a request and with one of two
-/// seconds.
+/// Since bytes moved and since the request began, where one did; whether a connection is closed then, without
+/// a limit for a request and with one of two seconds.
 const STAYS: &[(u64, Option<u64>, bool, bool)] = &[
     (0, None, false, false),
     (4_999, None, false, false),
@@ -55,7 +55,8 @@ fn was_silent(gone: Option<Client>) -> Option<bool> {
     Some(was)
 }
 
-/// Sixty-four clients: each comes a millisecond behind the one before it, and the first so many send a request.
+/// Sixty-four clients: each comes a millisecond behind the one before it, and the first so many send a
+/// request.
 fn full(rt: &impl Abort, alloc: Global, asking: u64) -> Seats<Client> {
     let mut seats = Seats::new(alloc, Times::new(None, None));
     for k in 0..64 {
@@ -107,8 +108,8 @@ fn who_reads_slowly_goes_for_another_one(rt: HostRuntime) {
     same(&rt, seats.len(), 63);
 }
 
-/// When clients leave, and whether the one that does was silent. The first one's request is unanswered for a second; the second one came at 1 and sent
-/// nothing in five seconds.
+/// When clients leave, and whether the one that does was silent. The first one's request is unanswered for a
+/// second; the second one came at 1 and sent nothing in five seconds.
 const LEAVES: &[(u64, Option<bool>)] = &[
     (1_063, None),
     (1_064, Some(false)),

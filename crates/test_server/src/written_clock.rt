@@ -23,8 +23,8 @@ pub(crate) enum Call {
     Nothing,
 }
 
-/// A step: the moment, whether a value is submitted before it, whether all that had come was taken in; what is called; and the datagrams that its batch
-/// takes in.
+/// A step: the moment, whether a value is submitted before it, whether all that had come was taken in; what
+/// is called; and the datagrams that its batch takes in.
 type Step = (u64, bool, bool, Call, &'static [&'static [u8]]);
 
 /// A question of node 2 for the first instance, and one of node 3.
@@ -155,7 +155,8 @@ const NEWS: &[Step] = &[
     (803, false, true, Call::Ask, &[]),
 ];
 
-/// Two values become known, and are put on record together, a tenth of a second after the first; a telling waits for that.
+/// Two values become known, and are put on record together, a tenth of a second after the first; a telling
+/// waits for that.
 const KEPT: &[Step] = &[
     (0, false, true, Call::Ask, &[FIRST_KNOWN]),
     (1, false, true, Call::Ask, &[]),

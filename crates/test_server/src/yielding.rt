@@ -10,8 +10,8 @@ const NOW: u64 = 100;
 
 const TOOK: u64 = 4;
 
-/// Who tried, and who last; since when no attempt stands, and since when it yields; its number, and whose attempt stands, 0 for nobody's; and whether it
-/// waits, and yields.
+/// Who tried, and who last; since when no attempt stands, and since when it yields; its number, and whose
+/// attempt stands, 0 for nobody's; and whether it waits, and yields.
 type Row = (
     &'static [u8],
     u8,
@@ -103,8 +103,9 @@ fn a_stretch_of_yielding_ends(rt: HostRuntime) {
     }
 }
 
-/// Whose attempts stood, 0 for nobody's, since when, and since when none did, and whose stands now; who tried then, and who last, where node 4 did before;
-/// since when attempts stand and since when none does, and how long those of the node before stood.
+/// Whose attempts stood, 0 for nobody's, since when, and since when none did, and whose stands now; who tried
+/// then, and who last, where node 4 did before; since when attempts stand and since when none does, and how
+/// long those of the node before stood.
 type Noted = (
     u8,
     Option<u64>,
@@ -156,7 +157,8 @@ fn whose_attempt_stands_is_noted(rt: HostRuntime) {
     }
 }
 
-/// Since when it yields, whether it waits and yields; who tried then, where nodes 2 and 5 did before; and since when it yields then.
+/// Since when it yields, whether it waits and yields; who tried then, where nodes 2 and 5 did before; and
+/// since when it yields then.
 const AFTER: &[(Option<u64>, bool, bool, &[u8], Option<u64>)] = &[
     (None, true, true, &[2, 5], Some(100)),
     (Some(60), true, true, &[2, 5], Some(60)),

@@ -1,4 +1,5 @@
-//! Each public call of the crates below that takes memory, once with ample memory. What a call made is lent to what looks at it.
+//! Each public call of the crates below that takes memory, once with ample memory. What a call made is lent
+//! to what looks at it.
 use crate::comparing::{ensure, same};
 use command::{Action, CommandFault, fault_line, read, write};
 use context::{Data, DataFault, Frame, resolve};

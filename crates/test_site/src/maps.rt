@@ -1,4 +1,5 @@
-//! Maps whose copies share. A map is lent to what changes it: what owns one is proved to let it go at each of its ends.
+//! Maps whose copies share. A map is lent to what changes it: what owns one is proved to let it go at each of
+//! its ends.
 use crate::comparing::{ensure, same};
 use shared_map::SharedMap;
 use std::alloc::{AllocError, Global};

@@ -1,8 +1,9 @@
 //! Each call with one growth refused: it answers as ever, or that memory was refused, and then the next try
 //! answers as ever. A try tells whether it found what it should, and lets go of that.
 //!
-//! All is tried twice, since a second program, `tools/gate/refuse-growths`, runs each test once for each growth of
-//! its memory and refuses that one: the first try meets it, the second does not. Alone a test is refused nothing.
+//! All is tried twice, since a second program, `tools/gate/refuse-growths`, runs each test once for each
+//! growth of its memory and refuses that one: the first try meets it, the second does not. Alone a test is
+//! refused nothing.
 use crate::calls::read_as;
 use crate::comparing::{ensure, same};
 use crate::releases::{V1, feed, new_releases, shows};

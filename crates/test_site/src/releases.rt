@@ -1,5 +1,5 @@
-//! Releases by number: what each value is answered with, the newest, pages and receipts. Releases are boxed, since a box is let go of in one step, and
-//! lent to what is told of them.
+//! Releases by number: what each value is answered with, the newest, pages and receipts. Releases are boxed,
+//! since a box is let go of in one step, and lent to what is told of them.
 use crate::comparing::{ensure, same};
 use crate::rows::{COMMANDS, Row, is_answered, ticket, value_of};
 use content::Applied;
@@ -143,7 +143,8 @@ fn values_that_are_no_commands(rt: HostRuntime) {
     no_commands(&rt, rt.alloc(), &mut releases);
 }
 
-/// A page that moved, in releases of which the second has a route for its path and the third no more the redirect.
+/// A page that moved, in releases of which the second has a route for its path and the third no more the
+/// redirect.
 const MOVES: &[Row] = &[
     (1, "put redirect /old /h\n", Applied::Changed),
     (2, "release\n", Applied::Released),

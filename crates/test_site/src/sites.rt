@@ -1,4 +1,5 @@
-//! A site, by the values that it takes, and a copy of it. A site is boxed, since a box is let go of in one step, and lent to what is told of it.
+//! A site, by the values that it takes, and a copy of it. A site is boxed, since a box is let go of in one
+//! step, and lent to what is told of it.
 use crate::comparing::ensure;
 use crate::rows::{Row, is_answered, value_of};
 use content::{Applied, Site};

@@ -5,7 +5,8 @@ use Rattle.site_ids.specs.declared.TheConstants.{MAX_VALUE}
 use Rattle.site_ids.specs.Ids.{IsNode, IsInstance, IsBallot}
 use Rattle.site_ids.specs.Spans.{IsSpan}
 use Rattle.wire.specs.declared.message.Message.{Message}
-use Rattle.wire.specs.declared.message.Message.TheVariants.{Prepare, Promise, Propose, Accepted, Nack, Ask, Chosen}
+use Rattle.wire.specs.declared.message.Message.TheVariants.{Prepare, Promise, Propose, Accepted, Nack, Ask}
+use Rattle.wire.specs.declared.message.Message.TheVariants.{Chosen}
 
 abbrev pub sender_of : Message → ℕ
 sender_of (Prepare q i b k) = q

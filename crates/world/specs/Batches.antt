@@ -57,7 +57,8 @@ AreEventsOf p sent (call ∷ calls) (event ∷ events) = IsEventOf p sent call e
     × AreEventsOf p sent calls events
 AreEventsOf p sent _ _ = ⊥
 
--- a batch at node p of world w: its calls lead from that node to the next one, and what they deliver was handed out before the first of them
+-- a batch at node p of world w: its calls lead from that node to the next one, and what they deliver was
+-- handed out before the first of them
 pub record IsBatch (n : ℕ) (w : World) (events : List Event) (p : ℕ) (out : List (To × Message))
     (next : Node) : Type 0 where
   pub calls : List Call
@@ -181,14 +182,18 @@ LeftBefore stands_for = (code : Running _) (n : ℕ) (w : World) (events : List 
 
 -- what a crash leaves at each moment of the seal, and after it
 abbrev pub LeftSealed : {D : Type 0} → (D → DiskState → Type 0) → Type 0
-LeftSealed stands_for = (old new : Running _) (n : ℕ) (w : World) (events : List Event) (p : ℕ) (out : List (To × Message)) (next : Node) (d : DiskState) → IsOpenAt stands_for old n w events p out next d
+LeftSealed stands_for =
+    (old new : Running _) (n : ℕ) (w : World) (events : List Event) (p : ℕ) (out : List (To × Message))
+    (next : Node) (d : DiskState) → IsOpenAt stands_for old n w events p out next d
     → IsNodeOf old next → SealsAt stands_for old new → (e : DiskState) × IsOnDisk stands_for new next e
     × LeavesOnly d e (IsLeft n w events p (messages_of out))
 
 -- what a crash leaves at each moment of a seal in which the device failed; and what is on the disk if there
 -- is no crash
 abbrev pub LeftFailed : {D : Type 0} → (D → DiskState → Type 0) → Type 0
-LeftFailed stands_for = (old : Running _) (disk : _) (n : ℕ) (w : World) (events : List Event) (p : ℕ) (out : List (To × Message)) (next : Node) (d : DiskState) → IsOpenAt stands_for old n w events p out next d
+LeftFailed stands_for =
+    (old : Running _) (disk : _) (n : ℕ) (w : World) (events : List Event) (p : ℕ) (out : List (To × Message))
+    (next : Node) (d : DiskState) → IsOpenAt stands_for old n w events p out next d
     → LosesOneOf stands_for old disk → (e : DiskState) × stands_for disk e
     × LeavesOnly d e (IsLeft n w events p (messages_of out)) × IsLeft n w events p (messages_of out) e.seen
 
@@ -201,7 +206,8 @@ OpenedOver stands_for = (disk : _) (d : DiskState) (code : Running _) (entries :
 
 -- ---- one of them
 
--- Node 1 of three has asked for a promise. In a batch node 2 gives it and begins an attempt of its own: two entries, and two messages
+-- Node 1 of three has asked for a promise. In a batch node 2 gives it and begins an attempt of its own: two
+-- entries, and two messages
 pub record SomeBatchIsTaken : Type 0 where
   pub w : World
   pub out : List (To × Message)

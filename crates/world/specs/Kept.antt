@@ -13,7 +13,8 @@ use Rattle.world.specs.Together.{tells_of, delivers_to}
 -- node 2 gets a value decided by nodes 1 and 2; c messages were handed out before
 abbrev pub decides_one : Value → ℕ → List Event
 decides_one v c =
-    Submit 2 v ∷ Tick 2 ∷ Deliver 1 c ∷ Deliver 2 c ∷ Deliver 2 (c + 1) ∷ Deliver 2 (c + 2) ∷ Deliver 1 (c + 3) ∷ Deliver 2 (c + 3) ∷ Deliver 2 (c + 4) ∷ Deliver 2 (c + 5) ∷ []
+    Submit 2 v ∷ Tick 2 ∷ Deliver 1 c ∷ Deliver 2 c ∷ Deliver 2 (c + 1) ∷ Deliver 2 (c + 2) ∷ Deliver 1
+    (c + 3) ∷ Deliver 2 (c + 3) ∷ Deliver 2 (c + 4) ∷ Deliver 2 (c + 5) ∷ []
 
 -- a node receives a message about an instance, and keeps what it learned there, or does not
 abbrev pub hears_one : Bool → ℕ → ℕ → ℕ → List Event
@@ -22,12 +23,16 @@ hears_one keeps p index i = Deliver p index ∷ (if keeps then Keep p i ∷ [] e
 -- three values are decided while node 3 receives nothing; then node 2 reports them to it
 abbrev pub catches_up : Bool → (ℕ → Value) → List Event
 catches_up keeps v =
-    decides_one (v 1) 0 ++ (decides_one (v 2) 6 ++ (decides_one (v 3) 12 ++ (Tell 2 1 ∷ hears_one keeps 3 18 1 ++ (hears_one keeps 3 19 2 ++ hears_one keeps 3 20 3))))
+    decides_one (v 1) 0 ++ (decides_one (v 2) 6
+    ++ (decides_one (v 3) 12
+    ++ (Tell 2 1 ∷ hears_one keeps 3 18 1 ++ (hears_one keeps 3 19 2 ++ hears_one keeps 3 20 3))))
 
 -- all nodes lose power, and nodes 2 and 3 start again. Each reports from instance 1 on, and receives what
 -- both reported, which is `told` messages
 abbrev pub starts_again : ℕ → List Event
-starts_again told = Crash 1 0 ∷ Crash 2 0 ∷ Crash 3 0 ∷ Restart 2 ∷ Restart 3 ∷ tells_of (2 ∷ 3 ∷ []) 1 ++ delivers_to (2 ∷ 3 ∷ []) 21 told
+starts_again told =
+    Crash 1 0 ∷ Crash 2 0 ∷ Crash 3 0 ∷ Restart 2 ∷ Restart 3 ∷ tells_of (2 ∷ 3 ∷ []) 1
+    ++ delivers_to (2 ∷ 3 ∷ []) 21 told
 
 pub record KeptIsShown : Type 0 where
   pub v : ℕ → Value

@@ -76,7 +76,8 @@ pub record RefusesOpening (n p : ℕ) (old new : Machine) : Type 0 where
 
 -- the call at node p of n
 abbrev pub CallTurns : ℕ → ℕ → Call → Machine → Machine → Handed → Handed → Type 0
-CallTurns n p call old new before after = Turns n p (λ s out next. AtNode n p s call out next) old new before after
+CallTurns n p call old new before after =
+    Turns n p (λ s out next. AtNode n p s call out next) old new before after
 
 -- the call is not taken, and a failed allocation is a cause to refuse it
 abbrev pub CallWants : ℕ → ℕ → Call → Machine → Machine → Handed → Handed → Type 0
@@ -107,4 +108,5 @@ AreMessages n sent = (m : Message) → In (messages_of sent) m → IsMessage n m
 -- the event is taken at its node, except for the publication after it
 abbrev pub EventTurns : ℕ → Event → Machine → Machine → Handed → Handed → Type 0
 EventTurns n event old new before after = AreMessages n before
-    → Turns n (node_of event) (λ s out next. NodeTakes n (node_of event) (messages_of before) s event out next) old new before after
+    → Turns n (node_of event)
+    (λ s out next. NodeTakes n (node_of event) (messages_of before) s event out next) old new before after

@@ -66,6 +66,8 @@ LearnsBy n w p new (Err (BadEvent k)) = ⊥
 
 -- a run over a plan, after which all nodes still run, so that no device failed in it
 abbrev pub QuietRunsLearn : Type 0
-QuietRunsLearn = (old new : Code) (past events : List Event) (reached : Reached old past) (p : ℕ) (result : Result (Unit {0}) WorldFault) → IsNode old.cluster p → new.cluster ≡ old.cluster
+QuietRunsLearn =
+    (old new : Code) (past events : List Event) (reached : Reached old past) (p : ℕ)
+    (result : Result (Unit {0}) WorldFault) → IsNode old.cluster p → new.cluster ≡ old.cluster
     → IsQuiet old.cluster reached.world p → IsPlan old.cluster reached.world p events
     → RunEnds old new events result → AreUp old.cluster new → LearnsBy old.cluster reached.world p new result

@@ -71,7 +71,8 @@ pub record ReplacedVotes : Type 0 where
   pub w : World
   pub takes : TakesAll 3 start (before_loss v ++ (mute_below v ++ heard_above v)) w
   pub said : w.sent ≡ said_of_replaced v
-  pub on_record : (w.node 1).entries ≡ Floor 65 ∷ Learned 1 (v 1) ∷ Promised 66 (by_2 4) ∷ Voted 66 (by_2 4) (v 66) ∷ []
+  pub on_record : (w.node 1).entries ≡ Floor 65 ∷ Learned 1 (v 1) ∷ Promised 66 (by_2 4) ∷ Voted 66 (by_2 4)
+      (v 66) ∷ []
   pub decided : Decides 3 w.sent 66 (v 66)
   pub later : World
   pub opens : TakesAll 3 w opened_anew later

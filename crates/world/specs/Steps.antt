@@ -72,8 +72,12 @@ PublishedAsFar n events k taken after code (inr last) = IsUnpublishedAt code aft
 abbrev pub RunEnds : Code → Code → List Event → Result (Unit {0}) WorldFault → Type 0
 RunEnds old new events (Ok x) = LeadsTo old new (λ w after. TakesAll old.cluster w events after
     × ArePublished new after events × StayPublished old new w after)
-RunEnds old new events (Err (OutOfMemory k)) = LeadsTo old new (λ w after. (wants : WantsMemory old.cluster w events k after) × PublishedAsFar old.cluster events k wants.taken after new wants.ended)
-RunEnds old new events (Err (BadEvent k)) = LeadsTo old new (λ w after. MeetsBadEvent old.cluster w events k after × ArePublished new after (take k events) × StayPublished old new w after)
+RunEnds old new events (Err (OutOfMemory k)) =
+    LeadsTo old new (λ w after. (wants : WantsMemory old.cluster w events k after)
+    × PublishedAsFar old.cluster events k wants.taken after new wants.ended)
+RunEnds old new events (Err (BadEvent k)) =
+    LeadsTo old new (λ w after. MeetsBadEvent old.cluster w events k after
+    × ArePublished new after (take k events) × StayPublished old new w after)
 
 -- ---- from one value to a later one
 

@@ -68,7 +68,9 @@ vote_in_flight a choice =
     ∷ Deliver 3 6 ∷ []
 
 abbrev pub said_before_crash : Value → List Message
-said_before_crash a = say.Prepare 1 1 (at 1 1) 1 ∷ say.Promise 1 1 (at 1 1) None ∷ say.Promise 2 1 (at 1 1) None ∷ say.Propose 1 1 (at 1 1) a ∷ []
+said_before_crash a =
+    say.Prepare 1 1 (at 1 1) 1 ∷ say.Promise 1 1 (at 1 1) None ∷ say.Promise 2 1
+    (at 1 1) None ∷ say.Propose 1 1 (at 1 1) a ∷ []
 
 -- the crash leaves the vote: node 2 reports it, and node 3 proposes its value
 pub record VoteIsKept : Type 0 where
@@ -77,7 +79,9 @@ pub record VoteIsKept : Type 0 where
   pub w : World
   pub takes : TakesAll 3 start (vote_in_flight a 1) w
   pub said : w.sent
-      ≡ said_before_crash a ++ (say.Prepare 3 1 (at 1 3) 1 ∷ say.Promise 2 1 (at 1 3) (Some (vote (at 1 1) a)) ∷ say.Promise 3 1 (at 1 3) None ∷ say.Propose 3 1 (at 1 3) a ∷ [])
+      ≡ said_before_crash a
+      ++ (say.Prepare 3 1 (at 1 3) 1 ∷ say.Promise 2 1 (at 1 3) (Some (vote (at 1 1) a)) ∷ say.Promise 3 1
+      (at 1 3) None ∷ say.Propose 3 1 (at 1 3) a ∷ [])
 
 -- the crash leaves no vote: nobody voted, and node 3 proposes the no-op
 pub record VoteIsLost : Type 0 where
@@ -85,19 +89,25 @@ pub record VoteIsLost : Type 0 where
   pub some : a ≢ []
   pub w : World
   pub takes : TakesAll 3 start (vote_in_flight a 7) w
-  pub said : w.sent ≡ said_before_crash a ++ (say.Prepare 3 1 (at 1 3) 1 ∷ say.Promise 2 1 (at 1 3) None ∷ say.Promise 3 1 (at 1 3) None ∷ say.Propose 3 1 (at 1 3) [] ∷ [])
+  pub said : w.sent ≡ said_before_crash a
+      ++ (say.Prepare 3 1 (at 1 3) 1 ∷ say.Promise 2 1 (at 1 3) None ∷ say.Promise 3 1
+      (at 1 3) None ∷ say.Propose 3 1 (at 1 3) [] ∷ [])
 
 -- ---- a release over a gap
 
 -- Node 1 gets its oldest pending value decided at its first unknown instance, with node 2's help. k messages
 -- were handed out before
 abbrev pub bring_through : ℕ → List Event
-bring_through k = Tick 1 ∷ Deliver 1 k ∷ Deliver 2 k ∷ Deliver 1 (k + 1) ∷ Deliver 1 (k + 2) ∷ Deliver 1 (k + 3) ∷ Deliver 2 (k + 3) ∷ Deliver 1 (k + 4) ∷ Deliver 1 (k + 5) ∷ []
+bring_through k =
+    Tick 1 ∷ Deliver 1 k ∷ Deliver 2 k ∷ Deliver 1 (k + 1) ∷ Deliver 1 (k + 2) ∷ Deliver 1 (k + 3) ∷ Deliver 2
+    (k + 3) ∷ Deliver 1 (k + 4) ∷ Deliver 1 (k + 5) ∷ []
 
 -- node 3 receives the votes at instances 1 and 3
 abbrev pub gap : Value → Value → Value → List Event
 gap a b c =
-    Submit 1 a ∷ Submit 1 b ∷ Submit 1 c ∷ (bring_through 0 ++ (bring_through 6 ++ (bring_through 12 ++ (Deliver 3 4 ∷ Deliver 3 5 ∷ Deliver 3 16 ∷ Deliver 3 17 ∷ []))))
+    Submit 1 a ∷ Submit 1 b ∷ Submit 1 c ∷
+    (bring_through 0 ++ (bring_through 6
+    ++ (bring_through 12 ++ (Deliver 3 4 ∷ Deliver 3 5 ∷ Deliver 3 16 ∷ Deliver 3 17 ∷ []))))
 
 -- and then those at instance 2
 abbrev pub gap_closes : List Event
@@ -166,7 +176,9 @@ said_by_three = say.Prepare 1 1 (at 1 1) 1 ∷ say.Prepare 1 2 (at 2 1) 2 ∷ []
 
 -- nodes 1 and 2 promise the span, each by one entry and for each of its instances
 abbrev pub promised_by_two : List Message
-promised_by_two = say.Promise 1 2 (at 2 1) None ∷ say.Promise 1 3 (at 2 1) None ∷ say.Promise 2 2 (at 2 1) None ∷ say.Promise 2 3 (at 2 1) None ∷ []
+promised_by_two =
+    say.Promise 1 2 (at 2 1) None ∷ say.Promise 1 3 (at 2 1) None ∷ say.Promise 2 2
+    (at 2 1) None ∷ say.Promise 2 3 (at 2 1) None ∷ []
 
 -- Node 1 tries its three values at once, and node 2 helps it with the last one. Node 3 knows that one, and
 -- nothing below it
@@ -179,7 +191,8 @@ pub record LastOfThreeIsKnown : Type 0 where
   pub c : Value
   pub w : World
   pub takes : TakesAll 3 start (last_of_three a b c) w
-  pub said : w.sent ≡ said_by_three ++ promised_by_two ++ (say.Propose 1 3 (at 2 1) c ∷ say.Accepted 1 3 (at 2 1) c ∷ say.Accepted 2 3 (at 2 1) c ∷ [])
+  pub said : w.sent ≡ said_by_three ++ promised_by_two
+      ++ (say.Propose 1 3 (at 2 1) c ∷ say.Accepted 1 3 (at 2 1) c ∷ say.Accepted 2 3 (at 2 1) c ∷ [])
   pub third : (w.node 3).known 3 ≡ Some c
   pub second : (w.node 3).known 2 ≡ None
 
@@ -239,4 +252,5 @@ pub record HigherSpanIsTaken : Type 0 where
       ∷ say.Promise 2 3 (at 2 3) None
       ∷ say.Nack 2 3 (at 2 1) (at 2 3)
       ∷ [])
-  pub recorded : (w.node 2).entries ≡ PromisedSpan 2 2 (at 2 1) ∷ Voted 2 (at 2 1) b ∷ PromisedSpan 2 2 (at 2 3) ∷ []
+  pub recorded : (w.node 2).entries ≡ PromisedSpan 2 2 (at 2 1) ∷ Voted 2 (at 2 1) b ∷ PromisedSpan 2 2
+      (at 2 3) ∷ []

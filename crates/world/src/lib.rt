@@ -1,4 +1,5 @@
-//! A cluster's nodes and the list of all messages ever handed out: events, schedules, that every schedule agrees, and a world that runs.
+//! A cluster's nodes and the list of all messages ever handed out: events, schedules, that every schedule
+//! agrees, and a world that runs.
 #![tactic(auto)]
 
 mod batches;

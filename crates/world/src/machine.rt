@@ -300,7 +300,8 @@ impl Machine {
         me: NodeId,
     ) -> Result<(), RecordFault>
         requires { IsNode cluster me }
-        ensures ok { OnOk result (Turns cluster me (λ s out next. Settled Up s out next) self.old self.new [] []) }
+        ensures ok { OnOk result (Turns cluster me
+            (λ s out next. Settled Up s out next) self.old self.new [] []) }
         ensures err { OnErr result (RefusesOpening cluster me self.old self.new) }
         ensures never { IfErr result (λ fault. (s : AbstractNode) → IsMachineOf cluster me self.old s
             → (fault ≡ RecordFault.Device) ⊎ (fault ≡ RecordFault.OutOfMemory)) }
@@ -370,7 +371,8 @@ impl Machine {
         requires node { IsNode cluster (node_of event.now) }
         requires message { ¬ IsUnsent (messages_of sent.old.items) event.now }
         ensures ok { OnOk result (EventTurns cluster event.now self.old self.new sent.old.items sent.new.items) }
-        ensures err { OnErr result (EventWants cluster (node_of event.now) event.now self.old self.new sent.old.items sent.new.items) }
+        ensures err { OnErr result (EventWants cluster
+            (node_of event.now) event.now self.old self.new sent.old.items sent.new.items) }
         ensures grows { OnlyGrows sent.old.items sent.new.items }
     {
         match event {

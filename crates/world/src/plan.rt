@@ -77,7 +77,8 @@ pub(crate) fn push_attempt(
     sent: &Outbox,
     again: u8,
 ) -> Result<(), AllocError>
-    ensures { OnOk result (events.new.items ≡ events.old.items ++ one_attempt cluster me (length sent.now.items) again) }
+    ensures { OnOk result (events.new.items
+        ≡ events.old.items ++ one_attempt cluster me (length sent.now.items) again) }
 {
     push_attempt_at(events, cluster, me, sent.len(), again)
 }
@@ -91,7 +92,9 @@ pub(crate) fn push_overbid(
     sent: &Outbox,
     again: u8,
 ) -> Result<(), AllocError>
-    ensures { OnOk result (events.new.items ≡ events.old.items ++ overbid_first me highest (length sent.now.items) again (one_attempt cluster me (length sent.now.items + 2 + again) again)) }
+    ensures { OnOk result (events.new.items
+        ≡ events.old.items ++ overbid_first me highest (length sent.now.items) again
+        (one_attempt cluster me (length sent.now.items + 2 + again) again)) }
 {
     let prepare = sent.len();
     let refusal = prepare + 1 + again as usize;

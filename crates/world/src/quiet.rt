@@ -50,7 +50,8 @@ impl World {
         ensures short { IfOk result (λ plan. IsShort self.now.cluster plan.items) }
         ensures none { IfOk result (λ plan. (w : AbstractWorld) → IsWorldOf self.now w
             → ¬ IsQuiet self.now.cluster w node → plan.items ≡ []) }
-        ensures decides { IfOk result (λ plan. (past : List AbstractEvent) (reached : Reached self.now past) (new : AbstractCode) (ended : Result (Unit {0}) AbstractFault)
+        ensures decides { IfOk result (λ plan. (past : List AbstractEvent) (reached : Reached self.now past)
+            (new : AbstractCode) (ended : Result (Unit {0}) AbstractFault)
             → IsQuiet self.now.cluster reached.world node → new.cluster ≡ self.now.cluster
             → RunEnds self.now new plan.items ended → AreUp self.now.cluster new
             → LearnsBy self.now.cluster reached.world node new ended) }
@@ -143,7 +144,8 @@ impl World {
     fn refuser(&self, node: NodeId, instance: Instance) -> Option<NodeId>
         requires { node ≤ self.now.cluster }
         ensures { (w : AbstractWorld) → IsWorldOf self.now w → IsQuiet self.now.cluster w node
-            → MatchOption result (HasNoneAbove self.now.cluster w instance (fresh_ballot node (w.node node))) (λ q. Overbids self.now.cluster w instance (fresh_ballot node (w.node node)) q) }
+            → MatchOption result (HasNoneAbove self.now.cluster w instance (fresh_ballot node (w.node node)))
+            (λ q. Overbids self.now.cluster w instance (fresh_ballot node (w.node node)) q) }
     {
         let ballot = self.machine(node).next_ballot()?;
         self.overbidder(instance, ballot)
@@ -153,7 +155,8 @@ impl World {
     // ballot.
     fn overbidder(&self, instance: Instance, ballot: Ballot) -> Option<NodeId>
         ensures { (w : AbstractWorld) → IsWorldOf self.now w → AllRun self.now.cluster w
-            → MatchOption result (HasNoneAbove self.now.cluster w instance ballot) (λ q. Overbids self.now.cluster w instance ballot q) }
+            → MatchOption result (HasNoneAbove self.now.cluster w instance ballot)
+            (λ q. Overbids self.now.cluster w instance ballot q) }
     {
         let cluster = self.cluster();
         let mut highest = Bid { ballot, node: None };

@@ -1,5 +1,5 @@
-//! Batches: what one takes and posts, the calls that a burst makes of the device, and what one that fails leaves: nothing is posted, and all of the batch is
-//! found again or none.
+//! Batches: what one takes and posts, the calls that a burst makes of the device, and what one that fails
+//! leaves: nothing is posted, and all of the batch is found again or none.
 use crate::driven::driven_node::reopened;
 use crate::driven::steps::{Last, Step, act_all, behind, play_each};
 use crate::failures::FAILURES;
@@ -21,8 +21,8 @@ const SIX: &[&str] = &[
     "ff",
 ];
 
-/// A promise to node 2, a vote for all, and the value to the asker. What the last call posts for all stands last: a tick where a value waits, and else a
-/// question about the next instance.
+/// A promise to node 2, a vote for all, and the value to the asker. What the last call posts for all stands
+/// last: a tick where a value waits, and else a question about the next instance.
 const POSTED: &[&[&[Step]]] = &[
     &[&[
         Step::Takes(&[], Last::TickOrAsk, Ok(0)),
@@ -59,7 +59,8 @@ const BURST: &[&str] = &[
     "0103020000000300000001020000000107",
 ];
 
-/// A question about an instance that isn't known, a refused value and no message: nothing goes on record for them.
+/// A question about an instance that isn't known, a refused value and no message: nothing goes on record for
+/// them.
 const IDLE: &[&str] = &["01060300000001", "0104020000000900000001020000000107", "ff"];
 
 const WAITING: &[Step] = &[Step::Submits(1)];
@@ -114,7 +115,8 @@ fn a_burst_takes_four_calls_of_the_device_and_what_puts_nothing_takes_none(rt: H
     play_each(&rt, rt.alloc(), ENOUGH);
 }
 
-/// The batch ends with the fault of the device, and the next one with that of a node that is stopped. Nothing is posted.
+/// The batch ends with the fault of the device, and the next one with that of a node that is stopped. Nothing
+/// is posted.
 const FAILS: &[Step] = &[
     Step::Takes(BURST, Last::Nothing, Err(NodeFault::Device)),
     Step::PostsMany(0),

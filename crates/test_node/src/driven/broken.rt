@@ -53,7 +53,8 @@ impl Link for Broken {
     }
 }
 
-/// Whether receives fail, and whether sends do; the turns of a drive, whose last call sends to three nodes; how many calls fail.
+/// Whether receives fail, and whether sends do; the turns of a drive, whose last call sends to three nodes;
+/// how many calls fail.
 const DRIVES: &[(bool, bool, u32, u64)] = &[
     (false, false, 9, 0),
     (true, false, 9, 9),

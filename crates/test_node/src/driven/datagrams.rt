@@ -52,7 +52,8 @@ const PROMISE_OF_3: &str = "01020300000001000000020101000000010200008000";
 
 const PROPOSAL: &str = "01030100000001000000020100008000";
 
-/// In round 2 of node 1 two promises tell of the same vote for the greatest value. With a slice of the longest datagram's length, longer ones would be cut to it.
+/// In round 2 of node 1 two promises tell of the same vote for the greatest value. With a slice of the
+/// longest datagram's length, longer ones would be cut to it.
 const LONGEST: &[Step] = &[
     Step::Submits(1),
     Step::Drives(0, 0),

@@ -1,10 +1,11 @@
 //! A drive with one growth refused, turn by turn and as one batch: it ends as ever, or by the fault that
-//! memory was wanted, or by that of the device where the disk in memory found none, and then the node is opened again. Where the link found none it
-//! counts a failure. Either way what was heard may be lost, as a datagram may; so it comes once more, and then the node is where it is without
-//! refusals.
+//! memory was wanted, or by that of the device where the disk in memory found none, and then the node is
+//! opened again. Where the link found none it counts a failure. Either way what was heard may be lost, as a
+//! datagram may; so it comes once more, and then the node is where it is without refusals.
 //!
-//! All is tried twice, since a second program, `tools/gate/refuse-growths`, runs each test once for each growth of
-//! its memory and refuses that one: the first try meets it, the second does not. Alone a test is refused nothing.
+//! All is tried twice, since a second program, `tools/gate/refuse-growths`, runs each test once for each
+//! growth of its memory and refuses that one: the first try meets it, the second does not. Alone a test is
+//! refused nothing.
 use crate::comparing::{ensure, same};
 use crate::driven::driven_node::{DrivenNode, bytes, reopened};
 use node::NodeFault;
@@ -48,7 +49,8 @@ fn hears(rt: &impl Abort, server: &mut DrivenNode<MemLink>, text: &str) {
     server.queue(rt, datagram.as_slice());
 }
 
-/// What a drive that hears all of it came to: whether it ended as without a refusal. Turns are left for what an earlier drive did not take.
+/// What a drive that hears all of it came to: whether it ended as without a refusal. Turns are left for what
+/// an earlier drive did not take.
 fn turns(rt: &impl Abort, server: &mut DrivenNode<MemLink>) -> Result<bool, NodeFault> {
     for &text in HEARD {
         hears(rt, server, text);

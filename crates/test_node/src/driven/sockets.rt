@@ -99,7 +99,8 @@ fn a_datagram_to_nowhere_is_a_failure(rt: HostRuntime) {
     fail(&rt, &mut server);
 }
 
-/// The longest promise, and the same with more behind it, which a receive cuts: lengths, and how many are malformed.
+/// The longest promise, and the same with more behind it, which a receive cuts: lengths, and how many are
+/// malformed.
 const LENGTHS: &[(usize, u32)] = &[(32_790, 0), (32_791, 1), (40_000, 1)];
 
 fn send(rt: &impl Abort, alloc: Global, length: usize, from: &UdpSocket, to: SocketAddr) {

@@ -53,7 +53,8 @@ pub(crate) enum Step {
     Posts(&'static [(u8, &'static str)]),
     /// So many letters are.
     PostsMany(usize),
-    /// How many messages of the last turns were of attempts, how many say that somebody does something, and for which instance node 3 asked; 0 where it did not.
+    /// How many messages of the last turns were of attempts, how many say that somebody does something, and
+    /// for which instance node 3 asked; 0 where it did not.
     Delivered(u32, u32, u32),
     /// Whether it has votes at the first three instances on record.
     Votes(bool),

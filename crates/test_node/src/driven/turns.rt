@@ -1,4 +1,5 @@
-//! What node 1 of three sends for what it hears, datagram by datagram; turns alone beside `drive`, and the other calls behind turns.
+//! What node 1 of three sends for what it hears, datagram by datagram; turns alone beside `drive`, and the
+//! other calls behind turns.
 use crate::driven::steps::{Last, Step, play, play_each};
 
 const QUESTION: &str = "01060100000001";
@@ -38,7 +39,8 @@ const SENT_FOR_SIX: &[Step] = &[
 /// The value to who asked.
 const SENT_FOR_THREE: &[Step] = &[Step::Sent(6, 3, "010701000000010000000107")];
 
-/// Turns alone, and then a drive of none. The last call is a tick where the instance was reached and isn't known, and else a question about the next one.
+/// Turns alone, and then a drive of none. The last call is a tick where the instance was reached and isn't
+/// known, and else a question about the next one.
 const EXCHANGES: &[&[&[Step]]] = &[
     &[&[
         Step::Turns(0, Last::Nothing, 0),
@@ -91,7 +93,8 @@ fn a_drive_is_an_exchange_and_a_last_call(rt: HostRuntime) {
     play_each(&rt, rt.alloc(), DRIVES);
 }
 
-/// Behind turns by which a tick is wanted: a question, then no widening, and one where a value waits; all on one desk.
+/// Behind turns by which a tick is wanted: a question, then no widening, and one where a value waits; all on
+/// one desk.
 const WITHOUT_A_TICK: &[&[Step]] = &[
     SIX,
     &[Step::Turns(6, Last::Ask, 0)],
@@ -113,7 +116,8 @@ fn questions_and_widenings_need_no_tick(rt: HostRuntime) {
     play_each(&rt, rt.alloc(), &[WITHOUT_A_TICK]);
 }
 
-/// Node 3 asks for what it is told behind the answer; whatever else comes is no question: four messages of attempts, and two votes.
+/// Node 3 asks for what it is told behind the answer; whatever else comes is no question: four messages of
+/// attempts, and two votes.
 const TOLD: &[Step] = &[
     Step::Turns(1, Last::Nothing, 0),
     Step::Delivered(1, 1, 0),

@@ -1,8 +1,10 @@
 //! Runs with one growth refused: a run goes on from the count that it gave, and every answer is that of the
-//! schedule without refusals. A disk in memory that finds none stops its node, which is opened again; then the schedule comes once more.
+//! schedule without refusals. A disk in memory that finds none stops its node, which is opened again; then
+//! the schedule comes once more.
 //!
-//! All is tried twice, since a second program, `tools/gate/refuse-growths`, runs each test once for each growth of
-//! its memory and refuses that one: the first try meets it, the second does not. Alone a test is refused nothing.
+//! All is tried twice, since a second program, `tools/gate/refuse-growths`, runs each test once for each
+//! growth of its memory and refuses that one: the first try meets it, the second does not. Alone a test is
+//! refused nothing.
 use crate::comparing::{ensure, is_page, same};
 use crate::worlds::group::{Group, runs};
 use crate::worlds::step::Step;
@@ -39,7 +41,8 @@ const CRASHES: &[Step] = &[
     Step::Settle,
 ];
 
-/// A call of node 2's vote fails, and the node ends so and is opened again. Then node 3 asks for promises: the release comes first, or the route.
+/// A call of node 2's vote fails, and the node ends so and is opened again. Then node 3 asks for promises:
+/// the release comes first, or the route.
 const VOTE_FAILED: &[Step] = &[
     Step::Submit(1, 1, "release\n"),
     Step::Submit(3, 2, "put route / t d\n"),

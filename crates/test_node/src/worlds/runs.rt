@@ -1,5 +1,6 @@
-//! Runs over lists of events: what they take, and what their faults count. A line of `sitesim` is a run of one event, and its `get` has one word for both
-//! reasons why there is no page: so this is no schedule of examples/schedules.
+//! Runs over lists of events: what they take, and what their faults count. A line of `sitesim` is a run of
+//! one event, and its `get` has one word for both reasons why there is no page: so this is no schedule of
+//! examples/schedules.
 use crate::comparing::{ensure, same};
 use crate::worlds::group::{Group, push, runs};
 use crate::worlds::step::Step;
@@ -19,7 +20,8 @@ fn has_sent(rt: &impl Abort, group: &Group, count: usize) {
     same(rt, group.sent_count(), count);
 }
 
-/// The fourth of five events names a message that was never handed out: three are taken. The second is refused, as it submits no command, and ends no run.
+/// The fourth of five events names a message that was never handed out: three are taken. The second is
+/// refused, as it submits no command, and ends no run.
 const UNSENT: &[Step] = &[
     Step::Ask(1),
     Step::Submit(1, 1, "put template t\n{{#a}}"),

@@ -25,7 +25,8 @@ const CONNECTIONS: &[(&str, &str)] = &[
     ("", "ended"),
     ("HTTP/1.1 200 OK\r\nContent-Length: 2\r\n\r\n7", "ended"),
     ("HTTP/1.1 200 OK\r\nContent-Le", "ended"),
-    // Without a length, with another coding, with a length that is none or too large, and what is no response.
+    // Without a length, with another coding, with a length that is none or too large, and what is no
+    // response.
     ("HTTP/1.1 200 OK\r\n\r\nall", "no answer"),
     (
         "HTTP/1.1 200 OK\r\nTransfer-Encoding: chunked\r\n\r\n0\r\n\r\n",

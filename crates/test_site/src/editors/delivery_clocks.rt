@@ -46,8 +46,8 @@ fn delivery_clocks(rt: HostRuntime) {
     }
 }
 
-/// The seconds that may pass without a receipt, when an exchange begins, and how long it waits for an answer, where the last receipt
-/// came after 1,500 milliseconds.
+/// The seconds that may pass without a receipt, when an exchange begins, and how long it waits for an answer,
+/// where the last receipt came after 1,500 milliseconds.
 const WAITS: &[(u64, u64, u64)] = &[
     (60, 1_500, 5_000),
     (60, 57_499, 5_000),
@@ -87,8 +87,8 @@ fn no_patience(rt: HostRuntime) {
     );
 }
 
-/// How often nodes were asked before, how many milliseconds passed since, how many seconds may pass, and how many
-/// milliseconds the nodes have to answer.
+/// How often nodes were asked before, how many milliseconds passed since, how many seconds may pass, and how
+/// many milliseconds the nodes have to answer.
 const ANSWERS: &[(u64, u64, u64, u64)] = &[
     (0, 0, 60, 2_000),
     (0, 0, 0, 2_000),

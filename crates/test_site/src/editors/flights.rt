@@ -13,8 +13,8 @@ const FIRST: &[&str] = &["put template t\nx", "put data a\n1\n", "put route /a t
 
 const SECOND: &[&str] = &["put template t\nx", "put data a\n2\n", "put route /b t a\n"];
 
-/// A group of one node: the text of each ticket that is known, and those that wait, of which it takes few; how many answers it gives before the editor
-/// is interrupted.
+/// A group of one node: the text of each ticket that is known, and those that wait, of which it takes few;
+/// how many answers it gives before the editor is interrupted.
 #[derive(Drop)]
 struct Town {
     known: Texts,

@@ -213,8 +213,8 @@ fn files_that_are_passed_over(rt: HostRuntime) {
     }
 }
 
-/// Files with faults of every sort, and the lines that they are told by. Of names nothing is told, as not all data could
-/// be read.
+/// Files with faults of every sort, and the lines that they are told by. Of names nothing is told, as not all
+/// data could be read.
 const FAULTY: &[(&str, &[u8])] = &[
     ("data/b.json", b"[1,]"),
     ("data/c.json", b"{}"),
@@ -241,8 +241,8 @@ fn all_faults_of_all_files(rt: HostRuntime) {
     is_told(&rt, rt.alloc(), &folder(&rt, rt.alloc(), FAULTY), TOLD);
 }
 
-/// Names that no data have, each by its part; paths that a link has to spell otherwise; redirects that lead on, in a circle,
-/// and astray.
+/// Names that no data have, each by its part; paths that a link has to spell otherwise; redirects that lead
+/// on, in a circle, and astray.
 const WARNED: &[(&str, &[u8])] = &[
     ("data/a.json", b"{\"x\": {\"y\": [{\"z\\u0021\": 1}]}}"),
     ("partials/p.mustache", b"{{x.y.z!}}{{.}}{{&x}}"),

@@ -78,8 +78,8 @@ fn paths_of_files(rt: HostRuntime) {
     }
 }
 
-/// Pages, and the addresses to which they lead on: a page that has none, the two forms of a page that has one,
-/// and pages that say it by halves or of two addresses.
+/// Pages, and the addresses to which they lead on: a page that has none, the two forms of a page that has
+/// one, and pages that say it by halves or of two addresses.
 const ALIASES: &[(&str, Option<&str>)] = &[
     ("<p>Hello</p>", None),
     (
@@ -293,7 +293,8 @@ fn takes_page(alloc: Global, len: usize) -> Result<Option<NotTaken>, AllocError>
     Ok(made.left_out.first().map(|left| left.why))
 }
 
-/// The longest page: a value's bytes less those of its ticket, of its command's first line and of the template's.
+/// The longest page: a value's bytes less those of its ticket, of its command's first line and of the
+/// template's.
 const LONGEST: usize = 32_768 - 12 - 18 - 10;
 
 #[test]

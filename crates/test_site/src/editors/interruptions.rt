@@ -1,4 +1,5 @@
-//! A publication that is interrupted after each of its commands, and goes on from the file with another folder.
+//! A publication that is interrupted after each of its commands, and goes on from the file with another
+//! folder.
 use crate::comparing::same;
 use crate::editors::ledgers::{kept, new_file, plan, plan_release, read, receive, save};
 use crate::editors::tickets::{Texts, has, keep};
@@ -7,7 +8,8 @@ use std::alloc::Global;
 use std::collections::BTreeMap;
 use std::process::Abort;
 
-/// A group as an editor sees it: the text of each ticket that was given, and how many commands it takes before the editor is interrupted.
+/// A group as an editor sees it: the text of each ticket that was given, and how many commands it takes
+/// before the editor is interrupted.
 #[derive(Drop)]
 struct Town {
     given: Texts,
@@ -64,7 +66,8 @@ fn send(
     sent
 }
 
-/// Goes on with what is on its way, and plans and sends a folder, and then its release; whether it came to its end.
+/// Goes on with what is on its way, and plans and sends a folder, and then its release; whether it came to
+/// its end.
 fn go_on(
     rt: &impl Abort,
     alloc: Global,
@@ -98,8 +101,8 @@ fn publish(
     go_on(rt, alloc, town, &mut ledger, file, folder)
 }
 
-/// After how many commands the first run ends, whether it was at its end, and the next ticket's number once the second folder is published: a release
-/// that was planned is sent, too.
+/// After how many commands the first run ends, whether it was at its end, and the next ticket's number once
+/// the second folder is published: a release that was planned is sent, too.
 const RUNS: &[(usize, bool, u64)] = &[
     (0, false, 7),
     (1, false, 7),

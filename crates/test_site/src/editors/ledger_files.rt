@@ -5,8 +5,8 @@ use editor_ledger::{Ledger, LedgerReadFault, Message, Released};
 use std::alloc::Global;
 use std::process::Abort;
 
-/// The file of a ledger with a release of which something is said, a text that the group has, what stood before each, and two
-/// on their way.
+/// The file of a ledger with a release of which something is said, a text that the group has, what stood
+/// before each, and two on their way.
 const FILE: &str =
     "published 2\neditor 4294967295\nnext 5\nlast_release 2\nreleased_by 31 1764057600 1\ntold 31 6\nspring\nhas 16\nput template t\nx\nwas 1 18\nremove template t\n\nwas 3 14\nremove data a\n\nwas 3 16\nput template t\nx\nsent 3 13\nput data a\n1\n\nsent 4 18\nremove template t\n\n";
 

@@ -128,7 +128,8 @@ fn begun(alloc: Global, ledger: &Ledger) -> Result<String, AllocError> {
     format!(in alloc; "{next} {last} {has}")
 }
 
-/// A ledger in a line: the next ticket's number, that of the last release, what the group has, what is on its way.
+/// A ledger in a line: the next ticket's number, that of the last release, what the group has, what is on its
+/// way.
 pub fn told(alloc: Global, ledger: &Ledger) -> Result<String, AllocError> {
     let mut line = begun(alloc, ledger)?;
     for sent in ledger.sent() {

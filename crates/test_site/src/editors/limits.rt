@@ -21,8 +21,8 @@ const ROUND: &[(&str, &[u8])] = &[
     ("templates/t.mustache", b"{{>p}}"),
 ];
 
-/// Two pages that cost too much: of one no partial nests, and of the other none so deep. Beside them one is shown, and there is a partial that calls
-/// itself, which nobody calls.
+/// Two pages that cost too much: of one no partial nests, and of the other none so deep. Beside them one is
+/// shown, and there is a partial that calls itself, which nobody calls.
 const DEAR: &[(&str, &[u8])] = &[
     ("data/a.json", b"{\"x\":[1,2,3,4,5,6,7,8,9,10]}"),
     ("partials/endless.mustache", b"{{>endless}}"),

@@ -75,7 +75,8 @@ fn has_planned(rt: &impl Abort, ledger: &Ledger) {
     }
 }
 
-/// What is published next from such a ledger: a file's text is put once more, what is gone is removed, and a route stays.
+/// What is published next from such a ledger: a file's text is put once more, what is gone is removed, and a
+/// route stays.
 #[test]
 fn goes_on(rt: HostRuntime) {
     let mut ledger = read(&rt, rt.alloc(), KEPT);

@@ -5,8 +5,8 @@ use editor_ledger::Ledger;
 use std::alloc::Global;
 use std::process::Abort;
 
-/// Folders that are published one after the other, a letter for each command; and the tickets of their releases, as plans and
-/// releases have them.
+/// Folders that are published one after the other, a letter for each command; and the tickets of their
+/// releases, as plans and releases have them.
 const FOLDERS: &[(&str, u64)] = &[("TA", 3), ("TB", 5), ("R", 9), ("TA", 13), ("", 16)];
 
 /// Tickets, and the letters of what stood when each was the last; those of removals are small.
@@ -62,7 +62,8 @@ fn what_stood(rt: HostRuntime) {
     all_stand(&rt, rt.alloc(), &read(&rt, rt.alloc(), file.as_str()));
 }
 
-/// A file of before, which keeps nothing of what stood: its last release alone is reached, and from then on each.
+/// A file of before, which keeps nothing of what stood: its last release alone is reached, and from then on
+/// each.
 const BEFORE: &str = "published 2\neditor 7\nnext 9\nlast_release 8\nhas 16\nput template t\nx\n";
 
 fn reaches(rt: &impl Abort, ledger: &Ledger, wanted: (bool, bool)) {

@@ -2,8 +2,8 @@
 use crate::comparing::{ensure, same};
 use editor_plan::{Came, Progress};
 
-/// What exchanges came to, when each ended and how many commands were left then; how many have their receipts, where that is told, and whether it
-/// is told that none comes.
+/// What exchanges came to, when each ended and how many commands were left then; how many have their
+/// receipts, where that is told, and whether it is told that none comes.
 const STEPS: &[(Came, u64, usize, Option<usize>, bool)] = &[
     (Came::Answers, 5, 9, None, false),
     (Came::Receipt, 10, 7, None, false),
@@ -33,8 +33,8 @@ fn progresses(rt: HostRuntime) {
     same(&rt, progress.all(), 9);
 }
 
-/// How many of forty commands have their receipts, one after the other, and whether the ledger is saved then: after
-/// more than two, which are a sixteenth.
+/// How many of forty commands have their receipts, one after the other, and whether the ledger is saved then:
+/// after more than two, which are a sixteenth.
 const KEPT: &[(usize, bool)] = &[
     (0, false),
     (2, false),

@@ -1,8 +1,9 @@
-//! Each step with one growth refused: it is taken as ever, or memory was refused, nothing has changed, and the
-//! next try takes it.
+//! Each step with one growth refused: it is taken as ever, or memory was refused, nothing has changed, and
+//! the next try takes it.
 //!
-//! All is tried twice, since a second program, `tools/gate/refuse-growths`, runs each test once for each growth of
-//! its memory and refuses that one: the first try meets it, the second does not. Alone a test is refused nothing.
+//! All is tried twice, since a second program, `tools/gate/refuse-growths`, runs each test once for each
+//! growth of its memory and refuses that one: the first try meets it, the second does not. Alone a test is
+//! refused nothing.
 use crate::comparing::{ensure, same};
 use crate::editors::folders::{SITE, files, lines_of, page_lines};
 use crate::editors::ledgers::{commands, told};
@@ -16,7 +17,8 @@ use http_read::Counted;
 use std::alloc::{AllocError, Global};
 use std::process::Abort;
 
-/// How many commands and pages a folder has, and how many bytes tell what is wrong with it and with its pages.
+/// How many commands and pages a folder has, and how many bytes tell what is wrong with it and with its
+/// pages.
 type Counts = (usize, usize, usize, usize);
 
 fn counts(alloc: Global, folder: &Folder) -> Result<Counts, AllocError> {

@@ -11,7 +11,8 @@ type Codes = ((u16, u16), (u16, u16), (u16, u16));
 /// The newest release of each of three nodes, where it says so.
 type Newest = (Option<u64>, Option<u64>, Option<u64>);
 
-/// The last ticket; of each of three nodes the statuses for the last and for the next, 0 for silence; and how the ledger stands.
+/// The last ticket; of each of three nodes the statuses for the last and for the next, 0 for silence; and how
+/// the ledger stands.
 const STANDINGS: &[(u64, Codes, Standing)] = &[
     (0, ((404, 404), (0, 0), (0, 0)), Standing::Newest),
     (0, ((0, 0), (0, 0), (0, 0)), Standing::Unanswered),
@@ -61,7 +62,8 @@ fn standings(rt: HostRuntime) {
     }
 }
 
-/// The newest releases of three nodes that answer, where the folder's last one is 4, and none knows ticket 5; and how the ledger stands.
+/// The newest releases of three nodes that answer, where the folder's last one is 4, and none knows ticket 5;
+/// and how the ledger stands.
 const SHOWING: &[(Newest, Standing)] = &[
     ((Some(0), Some(0), Some(0)), Standing::Returning),
     ((Some(3), Some(0), Some(2)), Standing::Returning),

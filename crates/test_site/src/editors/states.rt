@@ -1,5 +1,5 @@
-//! What a group's newest release may show of a folder after interrupted runs, what a publication may change there, and what those runs
-//! left, as a table.
+//! What a group's newest release may show of a folder after interrupted runs, what a publication may change
+//! there, and what those runs left, as a table.
 use crate::comparing::same;
 use crate::editors::ledgers::{commands, letters_of, plan, plan_release, receive};
 use editor_ledger::Ledger;
@@ -10,7 +10,8 @@ use std::process::Abort;
 /// A folder's publications, and what came of them, a letter for each command.
 #[derive(Clone, Copy)]
 struct Row {
-    /// The texts that are planned one after the other, or a release (`!`), and how many of each plan get their receipts.
+    /// The texts that are planned one after the other, or a release (`!`), and how many of each plan get
+    /// their receipts.
     plans: &'static [(&'static str, u64)],
     /// The folder's texts in each state.
     states: &'static str,
