@@ -159,7 +159,7 @@ pub fn read_clean<R: Files + AllocGlobal + Clone + Drop, E: Write>(
 pub fn texts_of<'a>(alloc: Global, folder: &'a Folder) -> Result<Vec<&'a str>, AllocError> {
     let mut texts = Vec::new(alloc);
     for command in folder.commands.iter() {
-        if let Ok(text) = str::from_utf8(&command.text) {
+        if let Ok(text) = str::from_utf8(command.text()) {
             texts.push(text)?;
         }
     }

@@ -1,11 +1,10 @@
 -- Texts that are commands.
-use Rattle.std.specs.Prelude.{◌≡◌, ℕ, List, Ok, Err, All, string_bytes}
+use Rattle.std.specs.Prelude.{◌≡◌, ℕ, List, Ok, Err, string_bytes}
 use Rattle.site_ids.specs.declared.Ticket.{Ticket}
 use Rattle.command.specs.Action.{Order}
 use Rattle.command.specs.Reading.{value_reading}
 use Rattle.command.specs.Written.{value_of, line_of}
 use Rattle.editor_folder.specs.declared.judging.Refusal.{Refusal}
-use Rattle.editor_folder.specs.declared.folder.FolderCommand.{FolderCommand}
 
 -- the ticket of nobody, under which texts are judged
 abbrev pub nobodys : Ticket
@@ -20,7 +19,3 @@ pub record IsCommandText (text : List ℕ) : Type 0 where
 pub record IsRefused (text : List ℕ) (refusal : Refusal) : Type 0 where
   pub reads : value_reading (value_of nobodys text) ≡ Err refusal.fault
   pub told : string_bytes refusal.line ≡ line_of refusal.fault
-
--- each command's text is one
-pub record AreCommands (commands : List FolderCommand) : Type 0 where
-  pub each : All (λ c. IsCommandText c.text.items) commands

@@ -1,6 +1,5 @@
 //! What is wrong with a folder beyond its files: routes that name what isn't there, redirects that lead
 //! nowhere, partials that aren't there, and paths that readers take for one.
-ghost use Rattle.editor_folder.specs.Texts.{AreCommands};
 
 use crate::endless::endless;
 use crate::finding::{Finding, Weight};
@@ -63,9 +62,7 @@ fn line_warning(
 
 impl Reading {
     /// Finds what is wrong with a folder whose files are all read.
-    pub(crate) fn check(&mut self) -> Result<(), AllocError>
-        ensures { AreCommands self.old.folder.commands.items → AreCommands self.new.folder.commands.items }
-    {
+    pub(crate) fn check(&mut self) -> Result<(), AllocError> {
         let mut findings = Vec::new(self.alloc);
         self.check_routes(&mut findings)?;
         self.check_redirects(&mut findings)?;

@@ -1,10 +1,9 @@
 //! A folder's files, each by its role, and the lines of `routes`, `redirects` and `removes`.
-ghost use Rattle.std.specs.Prelude.{IfOk};
-ghost use Rattle.editor_folder.specs.Texts.{IsCommandText, AreCommands};
 
 use crate::file::SiteFile;
 use crate::finding::Finding;
-use crate::judging::{Refusal, refused};
+use crate::folder_command::FolderCommand;
+use crate::judging::Refusal;
 use crate::keys::keys_of;
 use crate::lines::{
     Line, RedirectLine, RouteLine, kind_word, lines_in, redirect_in, removal_in, route_in,
@@ -17,12 +16,6 @@ use crate::template_reasons::{calls_of, names_of};
 use command::{CommandFault, Kind};
 use std::alloc::{AllocError, Global};
 use std::collections::{BTreeMap, BTreeSet};
-
-/// A command of a folder: its text.
-#[derive(Drop)]
-pub struct FolderCommand {
-    pub text: Vec<u8>,
-}
 
 /// A page of a folder: its path, what it names, and its line of `routes`.
 #[derive(Drop)]
@@ -74,19 +67,8 @@ pub(crate) fn key_of(alloc: Global, kind: Kind, name: &str) -> Result<String, Al
     format!(in alloc; "{kind} {name}")
 }
 
-/// Adds a command.
-fn take(commands: &mut Vec<FolderCommand>, text: Vec<u8>) -> Result<(), AllocError>
-    requires { IsCommandText text.items }
-    ensures { AreCommands commands.old.items → AreCommands commands.new.items }
-{
-    commands.push(FolderCommand { text })?;
-    Ok(())
-}
-
 impl Reading {
-    fn new(alloc: Global) -> Reading
-        ensures { AreCommands result.folder.commands.items }
-    {
+    fn new(alloc: Global) -> Reading {
         Reading {
             alloc,
             folder: Folder {
@@ -104,47 +86,37 @@ impl Reading {
         }
     }
 
-    pub(crate) fn find(&mut self, finding: Finding) -> Result<(), AllocError>
-        ensures { AreCommands self.old.folder.commands.items → AreCommands self.new.folder.commands.items }
-    {
+    pub(crate) fn find(&mut self, finding: Finding) -> Result<(), AllocError> {
         self.folder.findings.push(finding)?;
         Ok(())
     }
 
     /// Takes a text as a command, unless it is none.
-    fn judge(&mut self, text: Vec<u8>) -> Result<Option<Refusal>, AllocError>
-        ensures { AreCommands self.old.folder.commands.items → AreCommands self.new.folder.commands.items }
-    {
-        match refused(self.alloc, &text)? {
-            Some(refusal) => Ok(Some(refusal)),
-            None => {
-                take(&mut self.folder.commands, text)?;
+    fn judge(&mut self, text: Vec<u8>) -> Result<Option<Refusal>, AllocError> {
+        match FolderCommand::of(self.alloc, text)? {
+            Ok(command) => {
+                self.folder.commands.push(command)?;
                 Ok(None)
             }
+            Err(refusal) => Ok(Some(refusal)),
         }
     }
 
     /// Takes the command of a file, by its head and the file's text, unless it is none.
-    fn judge_file(&mut self, head: &str, body: &str) -> Result<Option<Refusal>, AllocError>
-        ensures { AreCommands self.old.folder.commands.items → AreCommands self.new.folder.commands.items }
-    {
+    fn judge_file(&mut self, head: &str, body: &str) -> Result<Option<Refusal>, AllocError> {
         let mut text = Vec::from_slice(self.alloc, head.as_bytes())?;
         text.extend_from_slice(body.as_bytes())?;
         self.judge(text)
     }
 
     /// A file that is no UTF-8 from a byte on.
-    fn no_text(&mut self, file: &SiteFile, at: usize) -> Result<(), AllocError>
-        ensures { AreCommands self.old.folder.commands.items → AreCommands self.new.folder.commands.items }
-    {
+    fn no_text(&mut self, file: &SiteFile, at: usize) -> Result<(), AllocError> {
         let finding = no_text(self.alloc, file.path.as_str(), &file.bytes, at)?;
         self.find(finding)
     }
 
     /// Takes the command of a file, or finds why it is none. Whether it is one is the answer.
-    fn judge_body(&mut self, path: &str, head: &str, body: &str) -> Result<bool, AllocError>
-        ensures { AreCommands self.old.folder.commands.items → AreCommands self.new.folder.commands.items }
-    {
+    fn judge_body(&mut self, path: &str, head: &str, body: &str) -> Result<bool, AllocError> {
         match self.judge_file(head, body)? {
             Some(refusal) => {
                 let finding = file_fault(self.alloc, path, head.len(), body, refusal)?;
@@ -156,9 +128,7 @@ impl Reading {
     }
 
     /// Takes the text of a template, a partial or data, and the names in it.
-    fn body(&mut self, kind: Kind, name: &str, path: &str, body: &str) -> Result<(), AllocError>
-        ensures { AreCommands self.old.folder.commands.items → AreCommands self.new.folder.commands.items }
-    {
+    fn body(&mut self, kind: Kind, name: &str, path: &str, body: &str) -> Result<(), AllocError> {
         let word = kind_word(kind);
         let head = format!(in self.alloc; "put {word} {name}\n")?;
         if !self.judge_body(path, head.as_str(), body)? {
@@ -171,9 +141,7 @@ impl Reading {
     }
 
     /// Takes the keys of data.
-    fn keys(&mut self, path: &str, body: &str) -> Result<(), AllocError>
-        ensures { AreCommands self.old.folder.commands.items → AreCommands self.new.folder.commands.items }
-    {
+    fn keys(&mut self, path: &str, body: &str) -> Result<(), AllocError> {
         self.has_data = true;
         let keys = keys_of(self.alloc, body)?;
         let mut doubled = doubled_keys(self.alloc, path, body, &keys)?;
@@ -182,9 +150,7 @@ impl Reading {
     }
 
     /// Takes a file that is the text of a template, a partial or data.
-    fn text(&mut self, kind: Kind, name: &str, file: &SiteFile) -> Result<(), AllocError>
-        ensures { AreCommands self.old.folder.commands.items → AreCommands self.new.folder.commands.items }
-    {
+    fn text(&mut self, kind: Kind, name: &str, file: &SiteFile) -> Result<(), AllocError> {
         let _ = self.found.insert(key_of(self.alloc, kind, name)?, 0)?;
         match str::from_utf8(&file.bytes) {
             Ok(body) => self.body(kind, name, file.path.as_str(), body),
@@ -193,9 +159,7 @@ impl Reading {
     }
 
     /// Takes the partials that a text calls, and the names of values that it has.
-    fn tags(&mut self, path: &str, body: &str) -> Result<(), AllocError>
-        ensures { AreCommands self.old.folder.commands.items → AreCommands self.new.folder.commands.items }
-    {
+    fn tags(&mut self, path: &str, body: &str) -> Result<(), AllocError> {
         let calls = calls_of(self.alloc, body)?;
         push_tags(self.alloc, &mut self.calls, path, body, &calls)?;
         let names = names_of(self.alloc, body)?;
@@ -203,27 +167,21 @@ impl Reading {
     }
 
     /// A fault of a line.
-    fn line_fault(&mut self, file: &str, line: usize, reason: &str) -> Result<(), AllocError>
-        ensures { AreCommands self.old.folder.commands.items → AreCommands self.new.folder.commands.items }
-    {
+    fn line_fault(&mut self, file: &str, line: usize, reason: &str) -> Result<(), AllocError> {
         let place = Some(Place { line, column: 1 });
         let finding = fault_in(self.alloc, file, place, reason)?;
         self.find(finding)
     }
 
     /// Takes the command of a line of `routes`, unless it is none.
-    fn judge_route(&mut self, route: &RouteLine<'_>) -> Result<Option<Refusal>, AllocError>
-        ensures { AreCommands self.old.folder.commands.items → AreCommands self.new.folder.commands.items }
-    {
+    fn judge_route(&mut self, route: &RouteLine<'_>) -> Result<Option<Refusal>, AllocError> {
         let (path, template, page_data) = (route.path, route.template, route.page_data);
         let text = format!(in self.alloc; "put route {path} {template} {page_data}\n")?;
         self.judge(text.into_bytes())
     }
 
     /// Notes what a line of `routes` says.
-    fn add_route(&mut self, route: &RouteLine<'_>, line: usize) -> Result<(), AllocError>
-        ensures { AreCommands self.old.folder.commands.items → AreCommands self.new.folder.commands.items }
-    {
+    fn add_route(&mut self, route: &RouteLine<'_>, line: usize) -> Result<(), AllocError> {
         self.folder.routes.push(Route {
             path: String::from_str(self.alloc, route.path)?,
             template: String::from_str(self.alloc, route.template)?,
@@ -234,9 +192,7 @@ impl Reading {
     }
 
     /// Takes a line of `routes`.
-    fn route(&mut self, line: &Line<'_>) -> Result<(), AllocError>
-        ensures { AreCommands self.old.folder.commands.items → AreCommands self.new.folder.commands.items }
-    {
+    fn route(&mut self, line: &Line<'_>) -> Result<(), AllocError> {
         let Some(route) = route_in(line) else {
             return self.line_fault(
                 "routes",
@@ -252,18 +208,17 @@ impl Reading {
     }
 
     /// Takes the command of a line of `redirects`, unless it is none.
-    fn judge_redirect(&mut self, redirect: &RedirectLine<'_>) -> Result<Option<Refusal>, AllocError>
-        ensures { AreCommands self.old.folder.commands.items → AreCommands self.new.folder.commands.items }
-    {
+    fn judge_redirect(
+        &mut self,
+        redirect: &RedirectLine<'_>,
+    ) -> Result<Option<Refusal>, AllocError> {
         let (path, target) = (redirect.path, redirect.target);
         let text = format!(in self.alloc; "put redirect {path} {target}\n")?;
         self.judge(text.into_bytes())
     }
 
     /// Notes what a line of `redirects` says.
-    fn add_redirect(&mut self, redirect: &RedirectLine<'_>, line: usize) -> Result<(), AllocError>
-        ensures { AreCommands self.old.folder.commands.items → AreCommands self.new.folder.commands.items }
-    {
+    fn add_redirect(&mut self, redirect: &RedirectLine<'_>, line: usize) -> Result<(), AllocError> {
         self.folder.redirects.push(Redirect {
             path: String::from_str(self.alloc, redirect.path)?,
             target: String::from_str(self.alloc, redirect.target)?,
@@ -273,9 +228,7 @@ impl Reading {
     }
 
     /// Takes a line of `redirects`.
-    fn redirect(&mut self, line: &Line<'_>) -> Result<(), AllocError>
-        ensures { AreCommands self.old.folder.commands.items → AreCommands self.new.folder.commands.items }
-    {
+    fn redirect(&mut self, line: &Line<'_>) -> Result<(), AllocError> {
         let Some(redirect) = redirect_in(line) else {
             return self.line_fault("redirects", line.number, "a line is PATH TARGET, two words");
         };
@@ -287,9 +240,7 @@ impl Reading {
     }
 
     /// Notes the line of a path, and finds one that had it before.
-    fn twice(&mut self, file: &str, kind: Kind, path: &str, line: usize) -> Result<(), AllocError>
-        ensures { AreCommands self.old.folder.commands.items → AreCommands self.new.folder.commands.items }
-    {
+    fn twice(&mut self, file: &str, kind: Kind, path: &str, line: usize) -> Result<(), AllocError> {
         let key = key_of(self.alloc, kind, path)?;
         if let Some(before) = self.found.insert(key, line)? {
             let word = kind_word(kind);
@@ -302,18 +253,14 @@ impl Reading {
     }
 
     /// Takes the command of a line of `removes`, unless it is none.
-    fn judge_removal(&mut self, kind: Kind, name: &str) -> Result<Option<Refusal>, AllocError>
-        ensures { AreCommands self.old.folder.commands.items → AreCommands self.new.folder.commands.items }
-    {
+    fn judge_removal(&mut self, kind: Kind, name: &str) -> Result<Option<Refusal>, AllocError> {
         let word = kind_word(kind);
         let text = format!(in self.alloc; "remove {word} {name}\n")?;
         self.judge(text.into_bytes())
     }
 
     /// Takes a line of `removes`.
-    fn removal(&mut self, line: &Line<'_>) -> Result<(), AllocError>
-        ensures { AreCommands self.old.folder.commands.items → AreCommands self.new.folder.commands.items }
-    {
+    fn removal(&mut self, line: &Line<'_>) -> Result<(), AllocError> {
         let Some((kind, name)) = removal_in(line) else {
             return self.line_fault(
                 "removes",
@@ -328,9 +275,7 @@ impl Reading {
     }
 
     /// A fault of a removal: the folder puts the same.
-    fn put_too(&mut self, kind: Kind, name: &str, line: usize) -> Result<(), AllocError>
-        ensures { AreCommands self.old.folder.commands.items → AreCommands self.new.folder.commands.items }
-    {
+    fn put_too(&mut self, kind: Kind, name: &str, line: usize) -> Result<(), AllocError> {
         let word = kind_word(kind);
         let reason = format!(in self.alloc;
             "the {word} {name} is put by this folder too: take one of both away"
@@ -339,9 +284,7 @@ impl Reading {
     }
 
     /// Notes a removal, and finds that the folder puts the same or removes it twice.
-    fn removed_once(&mut self, kind: Kind, name: &str, line: usize) -> Result<(), AllocError>
-        ensures { AreCommands self.old.folder.commands.items → AreCommands self.new.folder.commands.items }
-    {
+    fn removed_once(&mut self, kind: Kind, name: &str, line: usize) -> Result<(), AllocError> {
         let key = key_of(self.alloc, kind, name)?;
         if self.found.contains_key(key.as_str()) {
             return self.put_too(kind, name, line);
@@ -357,9 +300,7 @@ impl Reading {
     }
 
     /// Takes a line of `routes`, `redirects` or `removes`.
-    fn line(&mut self, line: &Line<'_>, of: Lines) -> Result<(), AllocError>
-        ensures { AreCommands self.old.folder.commands.items → AreCommands self.new.folder.commands.items }
-    {
+    fn line(&mut self, line: &Line<'_>, of: Lines) -> Result<(), AllocError> {
         match of {
             Lines::Routes => self.route(line),
             Lines::Redirects => self.redirect(line),
@@ -368,9 +309,7 @@ impl Reading {
     }
 
     /// Takes `routes`, `redirects` or `removes`.
-    fn lines(&mut self, file: &SiteFile, of: Lines) -> Result<(), AllocError>
-        ensures { AreCommands self.old.folder.commands.items → AreCommands self.new.folder.commands.items }
-    {
+    fn lines(&mut self, file: &SiteFile, of: Lines) -> Result<(), AllocError> {
         let text = match str::from_utf8(&file.bytes) {
             Ok(text) => text,
             Err(wrong) => return self.no_text(file, wrong.valid_up_to()),
@@ -382,9 +321,7 @@ impl Reading {
     }
 
     /// Takes a file by its role, where it is of this pass.
-    fn file(&mut self, pass: Pass, file: &SiteFile) -> Result<(), AllocError>
-        ensures { AreCommands self.old.folder.commands.items → AreCommands self.new.folder.commands.items }
-    {
+    fn file(&mut self, pass: Pass, file: &SiteFile) -> Result<(), AllocError> {
         match (pass, role_of(file.path.as_str())) {
             (Pass::Texts(of), Role::Text(kind, name)) if of == kind => self.text(kind, name, file),
             (Pass::Lines(Lines::Routes), Role::Routes) => self.lines(file, Lines::Routes),
@@ -399,9 +336,7 @@ impl Reading {
     }
 
     /// Takes all files, pass by pass, and finds what is wrong beyond them.
-    fn files(&mut self, files: &[SiteFile]) -> Result<(), AllocError>
-        ensures { AreCommands self.old.folder.commands.items → AreCommands self.new.folder.commands.items }
-    {
+    fn files(&mut self, files: &[SiteFile]) -> Result<(), AllocError> {
         for pass in PASSES {
             for file in files {
                 self.file(pass, file)?;
@@ -453,9 +388,7 @@ fn line_reason(fault: &CommandFault) -> &'static str {
 }
 
 /// Reads a folder: all its commands, and all that is wrong with it. What is no command is none of them.
-pub fn folder_of(alloc: Global, files: &[SiteFile]) -> Result<Folder, AllocError>
-    ensures { IfOk result (λ f. AreCommands f.commands.items) }
-{
+pub fn folder_of(alloc: Global, files: &[SiteFile]) -> Result<Folder, AllocError> {
     let mut reading = Reading::new(alloc);
     reading.files(files)?;
     Ok(reading.folder)

@@ -38,7 +38,7 @@ fn source_in(command: &str) -> Option<Source<'_>> {
 fn sources_of(alloc: Global, folder: &Folder) -> Result<Vec<Source<'_>>, AllocError> {
     let mut sources = Vec::new(alloc);
     for command in folder.commands.iter() {
-        let text = str::from_utf8(&command.text).unwrap_or("");
+        let text = str::from_utf8(command.text()).unwrap_or("");
         if let Some(source) = source_in(text) {
             sources.push(source)?;
         }

@@ -44,7 +44,7 @@ pub(crate) fn page_at(releases: &Releases, path: &str) -> Result<Option<Answer>,
 /// Feeds a folder's commands, and a release after them.
 fn feed_folder(alloc: Global, releases: &mut Releases, folder: &Folder) -> Result<(), AllocError> {
     for command in folder.commands.iter() {
-        feed(alloc, releases, &command.text)?;
+        feed(alloc, releases, command.text())?;
     }
     feed(alloc, releases, b"release\n")
 }

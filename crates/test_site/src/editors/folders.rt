@@ -103,7 +103,7 @@ const LINES: &[usize] = &[3, 4];
 fn has_commands(rt: &impl Abort, folder: &Folder) {
     same(rt, folder.commands.len(), COMMANDS.len());
     for (command, text) in folder.commands.iter().zip(COMMANDS) {
-        ensure(rt, command.text.as_slice() == *text, text.len());
+        ensure(rt, command.text() == *text, text.len());
     }
 }
 

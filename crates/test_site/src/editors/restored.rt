@@ -17,7 +17,7 @@ const FILES: &[(&str, &str)] = &[
 fn restored(alloc: Global, folder: &Folder) -> Result<Vec<SiteFile>, AllocError> {
     let mut texts = Vec::new(alloc);
     for command in folder.commands.iter() {
-        texts.push(str::from_utf8(&command.text).unwrap_or(""))?;
+        texts.push(str::from_utf8(command.text()).unwrap_or(""))?;
     }
     files_of(alloc, &texts)
 }
