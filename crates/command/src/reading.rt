@@ -45,7 +45,8 @@ pub fn read(alloc: Global, value: &[u8]) -> Result<Command, CommandFault>
     })
 }
 
-fn ticket(value: &[u8]) -> Ticket
+/// The ticket of a value: the editor's number and the command's, big endian, in its first 12 bytes.
+pub fn ticket(value: &[u8]) -> Ticket
     requires { TICKET_BYTES ≤ length value.now }
     ensures { result ≡ ticket_of value.now }
 {

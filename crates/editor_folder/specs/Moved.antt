@@ -2,7 +2,7 @@
 use Rattle.std.specs.Prelude.{ℕ, List, ◌++◌, codes}
 use Rattle.percent_encoding.specs.Percent.{percent_encode}
 use Rattle.render.specs.Printed.{escaped}
-use Rattle.editor_folder.specs.declared.moved.TheConstants.{ESCAPED}
+use Rattle.http_read.specs.declared.escaping.TheConstants.{ESCAPED}
 
 -- the target as an address
 abbrev pub address_of : List ℕ → List ℕ

@@ -43,7 +43,6 @@ pub use finding::{Finding, Weight};
 pub use folder::{Folder, Redirect, Route, folder_of};
 pub use folder_command::FolderCommand;
 pub use judging::{Refusal, refused};
-pub use moved::ESCAPED;
 pub use pages::{Page, page_faults, pages_of, release_of};
 pub use place::{Place, place_of};
 pub use restoring::files_of;

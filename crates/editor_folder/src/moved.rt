@@ -2,20 +2,10 @@
 ghost use Rattle.std.specs.Prelude.{◌≡◌, IfOk, string_bytes};
 ghost use Rattle.editor_folder.specs.Moved.{moved_page};
 
-use percent_encoding::{AsciiSet, NON_ALPHANUMERIC, ascii_set, utf8_percent_encode};
+use http_read::ESCAPED;
+use percent_encoding::utf8_percent_encode;
 use render::escape_into;
 use std::alloc::{AllocError, Global};
-
-/// What an address escapes, as a node does in a `Location` line: each byte but letters, digits and these
-/// marks (RFC 3986, section 2.3), and the slash.
-pub const ESCAPED: AsciiSet = ascii_set!(
-    NON_ALPHANUMERIC
-        .remove(b'-')
-        .remove(b'.')
-        .remove(b'_')
-        .remove(b'~')
-        .remove(b'/')
-);
 
 /// A page that leads on to a target, at once and by a link, and names it as the canonical address (RFC 6596).
 pub(crate) fn moved_page(alloc: Global, target: &str) -> Result<String, AllocError>

@@ -9,7 +9,7 @@ use Rattle.percent_encoding.specs.Percent.{percent_encode}
 use Rattle.site_ids.specs.declared.Ticket.{Ticket}
 use Rattle.editor_http.specs.Authorities.{login_shown}
 use Rattle.editor_http.specs.declared.authority.Authority.{Authority}
-use Rattle.editor_http.specs.declared.question.TheConstants.{ESCAPED}
+use Rattle.http_read.specs.declared.escaping.TheConstants.{ESCAPED}
 use Rattle.editor_http.specs.declared.question.Question.{Question}
 use Rattle.editor_http.specs.declared.question.Question.TheVariants.{Submit, Receipt, Newest, Page}
 

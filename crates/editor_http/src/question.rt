@@ -5,20 +5,10 @@ ghost use Rattle.editor_http.specs.Requests.{get_request, request_with, request_
 
 use crate::authority::Authority;
 use crate::authorization::authorization;
-use percent_encoding::{AsciiSet, NON_ALPHANUMERIC, ascii_set, utf8_percent_encode};
+use http_read::ESCAPED;
+use percent_encoding::utf8_percent_encode;
 use site_ids::Ticket;
 use std::alloc::{AllocError, Global};
-
-/// What a target escapes of a path: each byte but letters, digits and these marks (RFC 3986, section 2.3),
-/// and the slash.
-pub(crate) const ESCAPED: AsciiSet = ascii_set!(
-    NON_ALPHANUMERIC
-        .remove(b'-')
-        .remove(b'.')
-        .remove(b'_')
-        .remove(b'~')
-        .remove(b'/')
-);
 
 /// What can be asked of a node.
 #[derive(Clone, Copy)]

@@ -6,7 +6,7 @@ ghost use Rattle.url.specs.Parser.{parse_url};
 ghost use Rattle.url.specs.Parts.{Parts};
 ghost use Rattle.editor_import.specs.Leading.{Leads, IsAt, IsWhole, HasHostOf};
 
-use editor_folder::ESCAPED;
+use http_read::ESCAPED;
 use percent_encoding::{percent_decode, utf8_percent_encode};
 use std::alloc::{AllocError, Global};
 use url::{ParseError, Url};

@@ -7,21 +7,11 @@ ghost use Rattle.node.specs.Effects.{messages_of};
 ghost use Rattle.engine_schedule.specs.Tracing.{ballot_words, value_words, prior_words, kind_word, own_words};
 ghost use Rattle.engine_schedule.specs.Tracing.{message_line, line_or_nothing};
 
-use byteorder::{BigEndian, ByteOrder};
+use command::ticket;
 use site_ids::{Ballot, TICKET_BYTES, Ticket, Value, Vote};
 use std::alloc::{AllocError, Global};
 use wire::Message;
 use world::World;
-
-fn ticket(value: &[u8]) -> Ticket
-    requires { TICKET_BYTES ≤ length value.now }
-    ensures { result ≡ ticket_of value.now }
-{
-    Ticket {
-        editor: BigEndian::read_u32(value),
-        number: BigEndian::read_u64(&value[4..]),
-    }
-}
 
 /// The value's ticket, to the line's end.
 fn value_words(alloc: Global, value: &Value) -> Result<String, AllocError>

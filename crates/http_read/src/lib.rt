@@ -13,6 +13,7 @@ mod chunk_lines;
 mod codings;
 mod connection;
 mod counted;
+mod escaping;
 mod fault;
 mod fields;
 mod heads;
@@ -32,6 +33,7 @@ mod writing;
 
 pub use awaited::Awaited;
 pub use counted::Counted;
+pub use escaping::ESCAPED;
 pub use fault::ReadFault;
 pub use inbox::Inbox;
 pub use incoming::{Incoming, Method, Request};

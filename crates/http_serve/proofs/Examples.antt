@@ -3,7 +3,7 @@ use Rattle.std.proofs.Common.{◌≡◌, ℕ, zero, suc, Bool, List, [], ◌∷�
 use Rattle.std.specs.Fmt.{digits}
 use Rattle.percent_encoding.specs.AsciiSet.{should_percent_encode}
 use Rattle.percent_encoding.specs.Percent.{percent_encode, percent_encode_byte}
-use Rattle.http_serve.specs.declared.replies.TheConstants.{ESCAPED}
+use Rattle.http_read.specs.declared.escaping.TheConstants.{ESCAPED}
 use Rattle.command.specs.declared.fault.CommandFault.TheVariants.{TooLong}
 use Rattle.release.specs.Page.{in_place, moved_to}
 use Rattle.http_serve.specs.declared.submission.Submission.TheVariants.{Queued}

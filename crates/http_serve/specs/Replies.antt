@@ -3,7 +3,7 @@ use Rattle.std.specs.Prelude.{ℕ, Bool, true, false, not, ◌&&◌, ◌||◌, �
 use Rattle.std.specs.Prelude.{length, codes}
 use Rattle.std.specs.Fmt.{decimal}
 use Rattle.percent_encoding.specs.Percent.{percent_encode}
-use Rattle.http_serve.specs.declared.replies.TheConstants.{ESCAPED}
+use Rattle.http_read.specs.declared.escaping.TheConstants.{ESCAPED}
 
 -- a line of the head that only some responses have: none, the path that a page moved to, or the methods that
 -- are allowed if another was used

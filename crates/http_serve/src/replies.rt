@@ -7,19 +7,9 @@ ghost use Rattle.http_serve.specs.Shown.{line_of, reply_of, written_in, write_as
 ghost use Rattle.http_serve.specs.Replies.{line_before, reply_head, reason, media_type, closes as is_closing};
 ghost use Rattle.http_serve.specs.Replies.{head_end};
 
-use percent_encoding::{AsciiSet, NON_ALPHANUMERIC, ascii_set, utf8_percent_encode};
+use http_read::ESCAPED;
+use percent_encoding::utf8_percent_encode;
 use std::alloc::{AllocError, Global};
-
-/// What a `Location` line escapes: each byte but letters, digits and these marks (RFC 3986, section 2.3), and
-/// the slash.
-pub(crate) const ESCAPED: AsciiSet = ascii_set!(
-    NON_ALPHANUMERIC
-        .remove(b'-')
-        .remove(b'.')
-        .remove(b'_')
-        .remove(b'~')
-        .remove(b'/')
-);
 
 /// A line of the head that only some responses have.
 #[derive(Drop)]

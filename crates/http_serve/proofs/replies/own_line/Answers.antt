@@ -1,7 +1,7 @@
 use Rattle.std.proofs.Common.{◌≡◌, ◌∙◌, ap, string_bytes}
 use Rattle.percent_encoding.specs.Iter.{encoded_text}
 use Rattle.percent_encoding.specs.Percent.{percent_encode}
-use Rattle.http_serve.specs.declared.replies.TheConstants.{ESCAPED}
+use Rattle.http_read.specs.declared.escaping.TheConstants.{ESCAPED}
 use Rattle.http_serve.proofs.replies.own_line.Goals as goal
 
 pub returns-in-Location : goal.returns-in-Location
