@@ -12,5 +12,5 @@ pub use body::{Body, body_in};
 pub use cutting::{MAX_TEXT, cut, read_number};
 pub use ends::{InputFault, read_all};
 pub use feed::Feed;
-pub use saying::{give, say};
+pub use saying::{give, say, say_at};
 pub use words::{SubmissionLine, after, number_at_node, read_node, submission_after, word_after};

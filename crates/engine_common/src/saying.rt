@@ -1,8 +1,10 @@
 //! A line that a program says.
-ghost use Rattle.std.specs.Prelude.{◌≡◌};
+ghost use Rattle.std.specs.Prelude.{◌≡◌, ◌⊎◌, ℕ, List, codes};
+ghost use Rattle.engine_common.specs.Faults.{fault_at};
 ghost use Rattle.http_read.specs.Bytes.{end_of, IsGiven};
 
 use http_read::{Counted, write_all};
+use std::alloc::Global;
 use std::io::Write;
 
 /// Writes one line, as far as that can be done.
@@ -19,4 +21,16 @@ pub fn say<E: Write>(err: &mut Counted<E>, line: &str) -> u8
 {
     give(err, line);
     1
+}
+
+/// Says in these words why line k of the input stopped a program, and gives status 1.
+pub fn say_at<E: Write>(alloc: Global, err: &mut Counted<E>, k: u64, why: &str) -> u8
+    ensures status { result ≡ 1 }
+    ensures said { (said : List ℕ) × ((said ≡ fault_at k why.now) ⊎ (said ≡ codes "out of memory\n"))
+        × IsGiven (end_of E.contents err.old err.new) said }
+{
+    match format!(in alloc; "line {k}: {why}\n") {
+        Ok(line) => say(err, line.as_str()),
+        Err(_) => say(err, "out of memory\n"),
+    }
 }

@@ -4,7 +4,6 @@
 
 ghost use Rattle.std.specs.Prelude.{◌≡◌, ◌⊎◌, ℕ, Option, List, [], ◌∷◌, ◌++◌, ◌<◌, ◌≤◌, ◌+◌, length, IfOk};
 ghost use Rattle.std.specs.Prelude.{OnOk, IfErr, IsErrOf, Ok, Err, string_bytes, codes};
-ghost use Rattle.engine_common.specs.Faults.{fault_at};
 ghost use Rattle.http_read.specs.Bytes.{end_of, IsGiven};
 ghost use Rattle.node.specs.Effects.{messages_of};
 ghost use Rattle.engine_schedule.specs.ScheduleView.{line_view};
@@ -25,7 +24,7 @@ ghost use Rattle.world.specs.Worlds.{World as AbstractWorld};
 use crate::schedule::{Found, FoundNodes, Line, line_in, nodes_in};
 use crate::tracing::traced;
 use command::write;
-use engine_common::{Feed, InputFault, say};
+use engine_common::{Feed, InputFault, say, say_at};
 use http_read::{Counted, write_all};
 use release::Answer;
 use site_ids::{Cluster, NodeId, Value};
@@ -401,18 +400,6 @@ fn begin<R: Read>(
         if !feed.read_more(reader)? {
             return Err(SimFault::BadLine);
         }
-    }
-}
-
-/// Says in these words why line k stopped the run.
-fn say_at<E: Write>(alloc: Global, err: &mut Counted<E>, k: u64, why: &str) -> u8
-    ensures status { result ≡ 1 }
-    ensures said { (said : List ℕ) × ((said ≡ fault_at k why.now) ⊎ (said ≡ codes "out of memory\n"))
-        × IsGiven (end_of E.contents err.old err.new) said }
-{
-    match format!(in alloc; "line {k}: {why}\n") {
-        Ok(line) => say(err, line.as_str()),
-        Err(_) => say(err, "out of memory\n"),
     }
 }
 

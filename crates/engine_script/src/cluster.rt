@@ -1,7 +1,6 @@
 //! Three servers that a script drives: its lines in, what its requests are answered with out.
 ghost use Rattle.std.specs.Prelude.{◌≡◌, ◌⊎◌, ℕ, List, IfOk, codes};
 ghost use Rattle.site_ids.specs.Ids.{IsNode};
-ghost use Rattle.engine_common.specs.Faults.{fault_at};
 ghost use Rattle.http_read.specs.Bytes.{end_of, IsGiven};
 ghost use Rattle.engine_script.specs.declared.script.TheConstants.{SERVERS};
 ghost use Rattle.engine_script.specs.Client.{IsShown};
@@ -14,7 +13,7 @@ use crate::client::{get_request, post_request, shown};
 use crate::loopback_fault::LoopbackFault;
 use crate::script::{Found, Line, line_in};
 use crate::servers::Servers;
-use engine_common::{Feed, InputFault, say};
+use engine_common::{Feed, InputFault, say, say_at};
 use http_read::{Counted, write_all};
 use site_ids::NodeId;
 use std::alloc::Global;
@@ -148,18 +147,6 @@ fn next<N: Net<Stream = TcpStream>, R: Read>(
     let text = happen(net, alloc, servers, &line)?;
     feed.pass(used);
     Ok(Some(text))
-}
-
-/// Says in these words why line k stopped the run.
-fn say_at<E: Write>(alloc: Global, err: &mut Counted<E>, k: u64, why: &str) -> u8
-    ensures status { result ≡ 1 }
-    ensures said { (said : List ℕ) × ((said ≡ fault_at k why.now) ⊎ (said ≡ codes "out of memory\n"))
-        × IsGiven (end_of E.contents err.old err.new) said }
-{
-    match format!(in alloc; "line {k}: {why}\n") {
-        Ok(line) => say(err, line.as_str()),
-        Err(_) => say(err, "out of memory\n"),
-    }
 }
 
 /// Says why line k stopped the run.

@@ -1,5 +1,5 @@
 use Rattle.std.proofs.Common.{◌∙◌, inl, inr, refl}
-use Rattle.engine_schedule.proofs.simulator.say_at.Goals as goal
+use Rattle.engine_common.proofs.saying.say_at.Goals as goal
 
 pub returns-in-Ok-clause-said : goal.returns-in-Ok-clause-said
 returns-in-Ok-clause-said g c = (c.as_str.result.now, inl (c.as_str.ensures.value ∙ c.in-Ok.ensures.ok), c.say.ensures.said)
