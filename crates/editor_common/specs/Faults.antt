@@ -1,6 +1,8 @@
 -- Which faults end what.
 use Rattle.std.specs.Prelude.{◌≡◌, ⊤, List, ℕ, ◌++◌, codes, string_bytes}
 use Rattle.editor_common.specs.declared.editor_fault.EditorFault.{EditorFault}
+use Rattle.editor_common.specs.declared.talk_fault.TalkFault.{TalkFault}
+use Rattle.editor_common.specs.declared.talk_fault.TalkFault.TheVariants as talk
 use Rattle.editor_common.specs.declared.editor_fault.EditorFault.TheVariants.{File, Write, Stop, Clock}
 use Rattle.editor_common.specs.declared.editor_fault.EditorFault.TheVariants.{OutOfMemory}
 
@@ -10,13 +12,10 @@ IsStopOrMemory (Stop words) = ⊤
 IsStopOrMemory OutOfMemory = ⊤
 IsStopOrMemory _ = ⊥
 
--- while a group is spoken to, and what it says is written: a line could not be written, the clock could not
--- be read, or an allocation failed
-abbrev pub IsOfTalk : EditorFault → Type 0
-IsOfTalk Write = ⊤
-IsOfTalk Clock = ⊤
-IsOfTalk OutOfMemory = ⊤
-IsOfTalk _ = ⊥
+abbrev pub of_talk : TalkFault → EditorFault
+of_talk talk.Write = Write
+of_talk talk.Clock = Clock
+of_talk talk.OutOfMemory = OutOfMemory
 
 -- what the system says of that path, or an allocation failed
 abbrev pub IsAtPath : List ℕ → EditorFault → Type 0

@@ -2,28 +2,28 @@
 
 ghost use Rattle.std.specs.Prelude.{◌≡◌, IfErr};
 
-use crate::editor_fault::EditorFault;
+use crate::talk_fault::TalkFault;
 use std::rt::Clock;
 use std::thread;
 use std::time::{Duration, Instant};
 
 /// The time now.
-pub fn now<C: Clock>(clock: &C) -> Result<Instant, EditorFault>
-    ensures { IfErr result (λ fault. fault ≡ EditorFault.Clock) }
+pub fn now<C: Clock>(clock: &C) -> Result<Instant, TalkFault>
+    ensures { IfErr result (λ fault. fault ≡ TalkFault.Clock) }
 {
     match Instant::now(clock) {
         Ok(now) => Ok(now),
-        Err(_) => Err(EditorFault::Clock),
+        Err(_) => Err(TalkFault::Clock),
     }
 }
 
 /// How many milliseconds passed since then.
-pub fn passed<C: Clock>(clock: &C, since: Instant) -> Result<u64, EditorFault>
-    ensures { IfErr result (λ fault. fault ≡ EditorFault.Clock) }
+pub fn passed<C: Clock>(clock: &C, since: Instant) -> Result<u64, TalkFault>
+    ensures { IfErr result (λ fault. fault ≡ TalkFault.Clock) }
 {
     match since.elapsed(clock) {
         Ok(passed) => Ok(u64::try_from(passed.as_millis()).unwrap_or(u64::MAX)),
-        Err(_) => Err(EditorFault::Clock),
+        Err(_) => Err(TalkFault::Clock),
     }
 }
 

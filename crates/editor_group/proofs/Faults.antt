@@ -1,6 +1,8 @@
 -- A fault of a part is one of the whole.
 use Rattle.std.proofs.Common.{◌≡◌, ◌⊎◌, inl, inr, ℕ, List, slice_get, Option, Some}
-use Rattle.editor_common.specs.Faults.{IsOfTalk}
+use Rattle.editor_common.specs.Faults.{of_talk}
+use Rattle.editor_common.specs.declared.talk_fault.TalkFault.{TalkFault}
+use Rattle.editor_common.specs.declared.talk_fault.TalkFault.TheVariants as talk
 use Rattle.editor_common.specs.declared.editor_fault.EditorFault.{EditorFault}
 use Rattle.editor_common.specs.declared.editor_fault.EditorFault.TheVariants.{Write, Stop, NoNodes, Clock, OutOfMemory}
 use Rattle.editor_group.specs.Confirming.{EndsAsking, EndsConfirming, Refuses, Stands, waited_for}
@@ -25,19 +27,24 @@ exchange_ends_delivery patience group NoNodes is = is
 exchange_ends_delivery patience group OutOfMemory is = tt
 exchange_ends_delivery patience group _ is = absurd is
 
-pub talk_ends_delivery : (patience : ℕ) (group : Group) (why : EditorFault) → IsOfTalk why → EndsDelivery patience group why
-talk_ends_delivery patience group Write is = tt
-talk_ends_delivery patience group Clock is = tt
-talk_ends_delivery patience group OutOfMemory is = tt
-talk_ends_delivery patience group _ is = absurd is
+talk_of_delivery : (patience : ℕ) (group : Group) (fault : TalkFault) → EndsDelivery patience group (of_talk fault)
+talk_of_delivery patience group talk.Write = tt
+talk_of_delivery patience group talk.Clock = tt
+talk_of_delivery patience group talk.OutOfMemory = tt
+
+pub talk_ends_delivery : (patience : ℕ) (group : Group) (fault : TalkFault) (why : EditorFault)
+    → why ≡ of_talk fault → EndsDelivery patience group why
+talk_ends_delivery patience group fault why is = rw is (talk_of_delivery patience group fault)
 
 -- ---- a confirmation
 
-pub talk_ends_asking : (why : EditorFault) → IsOfTalk why → EndsAsking why
-talk_ends_asking Write is = tt
-talk_ends_asking Clock is = tt
-talk_ends_asking OutOfMemory is = tt
-talk_ends_asking _ is = absurd is
+talk_of_asking : (fault : TalkFault) → EndsAsking (of_talk fault)
+talk_of_asking talk.Write = tt
+talk_of_asking talk.Clock = tt
+talk_of_asking talk.OutOfMemory = tt
+
+pub talk_ends_asking : (fault : TalkFault) (why : EditorFault) → why ≡ of_talk fault → EndsAsking why
+talk_ends_asking fault why is = rw is (talk_of_asking fault)
 
 pub asking_ends_confirming : (n : ℕ) (folder : List ℕ) (patience : ℕ) (book : Book) (why : EditorFault)
     → EndsAsking why → EndsConfirming n folder patience book why

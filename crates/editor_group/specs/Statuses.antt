@@ -4,7 +4,8 @@ use Rattle.std.specs.Prelude.{unwrap_or, List, [], ◌∷◌, length, Option, So
 use Rattle.serde_json.specs.Data.{Data, Members, null, boolean, number, unsigned, array, object, put}
 use Rattle.serde_json.specs.View.{items_of}
 use Rattle.site_ids.specs.declared.TheConstants.{MAX_INSTANCE}
-use Rattle.editor_common.specs.Faults.{IsOfTalk}
+use Rattle.editor_common.specs.Faults.{of_talk}
+use Rattle.editor_common.specs.declared.talk_fault.TalkFault.{TalkFault}
 use Rattle.editor_common.specs.declared.editor_fault.EditorFault.{EditorFault}
 use Rattle.editor_group.specs.Addresses.{AreNamed, OneIsRefused}
 use Rattle.editor_group.specs.declared.address.Address.{Address}
@@ -80,4 +81,5 @@ pub record EndsStatus (n release status : ℕ) (now : Members) : Type 0 where
 -- or the clock not read, or an allocation failed
 abbrev pub EndsTelling : {X : Type 0} → (X → List ℕ) → List X → EditorFault → Type 0
 EndsTelling url_of urls why =
-    OneIsRefused url_of urls why ⊎ ((nodes : List Address) × AreNamed url_of urls nodes × IsOfTalk why)
+    OneIsRefused url_of urls why
+    ⊎ ((nodes : List Address) × (fault : TalkFault) × AreNamed url_of urls nodes × (why ≡ of_talk fault))

@@ -1,12 +1,11 @@
 //! Which nodes answer, all asked at once.
 ghost use Rattle.std.specs.Prelude.{◌≡◌, length, vec_len, IfErr, IfOk};
-ghost use Rattle.editor_common.specs.Faults.{IsOfTalk};
 
 use crate::address::Address;
 use crate::asking::number_in;
 use crate::asking_all::{Said, ask_each};
 use crate::group::Group;
-use editor_common::EditorFault;
+use editor_common::TalkFault;
 use editor_http::Question;
 use std::net::{Net, TcpStream};
 use std::rt::Clock;
@@ -21,9 +20,8 @@ fn ask_newest<'a, R: Net<Stream = TcpStream> + Clock + AllocGlobal>(
     rt: &R,
     group: &'a Group,
     within: u64,
-) -> Result<Vec<Said<'a>>, EditorFault>
+) -> Result<Vec<Said<'a>>, TalkFault>
     ensures is { IfOk result (λ all. vec_len all ≡ length group.now.nodes.items) }
-    ensures faults { IfErr result IsOfTalk }
 {
     let nodes: Vec<&Address> = group.nodes().iter().collect(rt.alloc())?;
     ask_each(rt, &nodes, &[Question::Newest], within)
@@ -34,9 +32,7 @@ pub(crate) fn silent_nodes<R: Net<Stream = TcpStream> + Clock + AllocGlobal>(
     rt: &R,
     group: &Group,
     within: u64,
-) -> Result<String, EditorFault>
-    ensures faults { IfErr result IsOfTalk }
-{
+) -> Result<String, TalkFault> {
     let mut silent = String::new(rt.alloc());
     for said in &ask_newest(rt, group, within)? {
         if !tells_newest(said) {

@@ -1,10 +1,9 @@
 //! The same questions to several nodes at once, so that silent ones cost no more time than one of them.
 ghost use Rattle.std.specs.Prelude.{◌≡◌, length, vec_len, IfErr, IfOk};
-ghost use Rattle.editor_common.specs.Faults.{IsOfTalk};
 
 use crate::address::Address;
 use crate::asking::{connect_within, read_answers, write_questions};
-use editor_common::{EditorFault, now, passed, rest};
+use editor_common::{TalkFault, now, passed, rest};
 use editor_http::{Barred, NodeAnswer, Question};
 use std::alloc::{AllocError, Global};
 use std::io;
@@ -82,9 +81,7 @@ fn begin_talk<'a, R: Clock + AllocGlobal>(
     stream: TcpStream,
     node: &'a Address,
     questions: &[Question<'_>],
-) -> Result<Call<'a>, EditorFault>
-    ensures faults { IfErr result IsOfTalk }
-{
+) -> Result<Call<'a>, TalkFault> {
     let since = now(rt)?;
     write_questions(rt.alloc(), &stream, &node.authority, questions)?;
     if stream.set_nonblocking(true).is_err() {
@@ -103,12 +100,10 @@ fn begin<'a, R: Net<Stream = TcpStream> + Clock + AllocGlobal>(
     node: &'a Address,
     within: Duration,
     questions: &[Question<'_>],
-) -> Result<Call<'a>, EditorFault>
-    ensures faults { IfErr result IsOfTalk }
-{
+) -> Result<Call<'a>, TalkFault> {
     match connect_within(rt, node.authority.host.as_str(), within) {
         Ok(stream) => begin_talk(rt, stream, node, questions),
-        Err(fault) if fault.kind() == io::ErrorKind::OutOfMemory => Err(EditorFault::OutOfMemory),
+        Err(fault) if fault.kind() == io::ErrorKind::OutOfMemory => Err(TalkFault::OutOfMemory),
         Err(fault) => Ok(Call::Over(silence(rt.alloc(), node, Some(fault)))),
     }
 }
@@ -118,9 +113,8 @@ fn begin_all<'a, R: Net<Stream = TcpStream> + Clock + AllocGlobal>(
     rt: &R,
     nodes: &[&'a Address],
     questions: &[Question<'_>],
-) -> Result<Vec<Call<'a>>, EditorFault>
+) -> Result<Vec<Call<'a>>, TalkFault>
     ensures is { IfOk result (λ calls. vec_len calls ≡ length nodes.now) }
-    ensures faults { IfErr result IsOfTalk }
 {
     let share = CONNECTING / (nodes.len() as u64).max(1);
     let mut calls = Vec::new(rt.alloc());
@@ -151,9 +145,7 @@ fn read_talk<'a, R: Clock + AllocGlobal>(
     talk: &Talk<'a>,
     count: usize,
     left: u64,
-) -> Result<Said<'a>, EditorFault>
-    ensures faults { IfErr result IsOfTalk }
-{
+) -> Result<Said<'a>, TalkFault> {
     let mut said = silence(rt.alloc(), talk.node, None);
     said.millis = passed(rt, talk.since)?;
     if set_waiting(&talk.stream, left).is_ok() {
@@ -168,9 +160,7 @@ fn news_of<'a, R: Clock + AllocGlobal>(
     call: &Call<'a>,
     count: usize,
     left: u64,
-) -> Result<Option<Said<'a>>, EditorFault>
-    ensures faults { IfErr result IsOfTalk }
-{
+) -> Result<Option<Said<'a>>, TalkFault> {
     match call {
         Call::Waits(talk) if has_come(&talk.stream) => Ok(Some(read_talk(rt, talk, count, left)?)),
         _ => Ok(None),
@@ -187,9 +177,8 @@ fn look<R: Clock + AllocGlobal>(
     calls: &mut [Call<'_>],
     count: usize,
     left: u64,
-) -> Result<bool, EditorFault>
+) -> Result<bool, TalkFault>
     ensures is { length calls.new ≡ length calls.old }
-    ensures faults { IfErr result IsOfTalk }
 {
     for call in calls.iter_mut() {
         if let Some(said) = news_of(rt, call, count, left)? {
@@ -205,9 +194,8 @@ fn wait_for_all<R: Clock + AllocGlobal>(
     calls: &mut [Call<'_>],
     count: usize,
     within: u64,
-) -> Result<(), EditorFault>
+) -> Result<(), TalkFault>
     ensures is { length calls.new ≡ length calls.old }
-    ensures faults { IfErr result IsOfTalk }
 {
     let since = now(rt)?;
     for _ in 0..u64::MAX {
@@ -240,9 +228,8 @@ pub(crate) fn ask_each<'a, R: Net<Stream = TcpStream> + Clock + AllocGlobal>(
     nodes: &[&'a Address],
     questions: &[Question<'_>],
     within: u64,
-) -> Result<Vec<Said<'a>>, EditorFault>
+) -> Result<Vec<Said<'a>>, TalkFault>
     ensures is { IfOk result (λ all. vec_len all ≡ length nodes.now) }
-    ensures faults { IfErr result IsOfTalk }
 {
     let mut calls = begin_all(rt, nodes, questions)?;
     wait_for_all(rt, calls.as_mut_slice(), questions.len(), within)?;

@@ -1,7 +1,6 @@
 //! Whether a ledger is the newest of its editor, as the group says.
 ghost use Rattle.std.specs.Prelude.{◌≡◌, ◌<◌, ◌∷◌, [], length, vec_len, false, IfErr, IfOk, OnOk};
 ghost use Rattle.std.specs.Prelude.{string_bytes};
-ghost use Rattle.editor_common.specs.Faults.{IsOfTalk};
 ghost use Rattle.editor_plan.specs.Standings.{last_shown as shown_last, last_ticket as ticket_last};
 ghost use Rattle.editor_group.specs.Confirming.{EndsAsking, EndsConfirming, IsConfirmed, LooksSo, Refuses};
 ghost use Rattle.editor_group.specs.Confirming.{SaysWhy, Stands, waited_for};
@@ -10,7 +9,7 @@ use crate::address::Address;
 use crate::asking::number_in;
 use crate::asking_all::{Said, ask_each, silent_urls};
 use crate::group::Group;
-use editor_common::{EditorFault, now, passed, rest, say_made};
+use editor_common::{EditorFault, TalkFault, now, passed, rest, say_made};
 use editor_http::{NodeAnswer, Question};
 use editor_ledger::Ledger;
 use editor_plan::{
@@ -237,9 +236,7 @@ fn tell_unanswered<E: Write>(
 }
 
 /// Tells which nodes were waited for in vain, if some were.
-fn tell_waited<E: Write>(alloc: Global, err: &mut E, all: &[Said<'_>]) -> Result<(), EditorFault>
-    ensures faults { IfErr result IsOfTalk }
-{
+fn tell_waited<E: Write>(alloc: Global, err: &mut E, all: &[Said<'_>]) -> Result<(), TalkFault> {
     let silent = silent_urls(alloc, all)?;
     if silent.is_empty() {
         return Ok(());
@@ -264,7 +261,7 @@ fn tell_first<E: Write>(
     if found == Standing::Unanswered {
         tell_unanswered(alloc, err, all)
     } else {
-        tell_waited(alloc, err, all)
+        Ok(tell_waited(alloc, err, all)?)
     }
 }
 
@@ -310,9 +307,7 @@ fn tell_waiting<E: Write>(
     claim: Claim,
     patience: u64,
     found: Standing,
-) -> Result<(), EditorFault>
-    ensures faults { IfErr result IsOfTalk }
-{
+) -> Result<(), TalkFault> {
     let Claim {
         editor,
         last,

@@ -1,10 +1,9 @@
 //! What is told while commands are on their way; when it is told, `editor_plan` says.
 ghost use Rattle.std.specs.Prelude.{IfErr};
-ghost use Rattle.editor_common.specs.Faults.{IsOfTalk};
 
 use crate::answering::silent_nodes;
 use crate::group::Group;
-use editor_common::{EditorFault, say_made};
+use editor_common::{TalkFault, say_made};
 use editor_files::Saved;
 use editor_plan::{Came, Progress};
 use std::io::Write;
@@ -19,9 +18,7 @@ fn tell_silence<R: Net<Stream = TcpStream> + Clock + AllocGlobal, E: Write>(
     rt: &R,
     err: &mut E,
     group: &Group,
-) -> Result<(), EditorFault>
-    ensures faults { IfErr result IsOfTalk }
-{
+) -> Result<(), TalkFault> {
     let alloc = rt.alloc();
     let silent = silent_nodes(rt, group, NAMING)?;
     let line = if silent.is_empty() {
@@ -44,9 +41,7 @@ fn tell_count<R: Files + AllocGlobal, E: Write>(
     saved: &Saved<'_>,
     progress: &mut Progress,
     has: usize,
-) -> Result<(), EditorFault>
-    ensures faults { IfErr result IsOfTalk }
-{
+) -> Result<(), TalkFault> {
     let all = progress.all();
     say_made(err, format!(in rt.alloc(); "{has} of {all} commands"))?;
     if progress.keeps(has) {
@@ -65,9 +60,7 @@ pub(crate) fn tell_progress<R: Net<Stream = TcpStream> + Files + Clock + AllocGl
     progress: &mut Progress,
     now: u64,
     came: Came,
-) -> Result<(), EditorFault>
-    ensures faults { IfErr result IsOfTalk }
-{
+) -> Result<(), TalkFault> {
     let left = saved.ledger().sent().len();
     if let Some(has) = progress.count(now, left) {
         tell_count(rt, err, saved, progress, has)?;

@@ -1,13 +1,12 @@
 //! What nodes say of themselves, all asked at once.
 ghost use Rattle.std.specs.Prelude.{◌≡◌, length, vec_len, IfErr, IfOk, None};
-ghost use Rattle.editor_common.specs.Faults.{IsOfTalk};
 ghost use Rattle.editor_plan.specs.Standings.{last_shown};
 ghost use Rattle.editor_group.specs.Published.{ticket_of};
 
 use crate::address::Address;
 use crate::asking::number_in;
 use crate::asking_all::{Said, ask_each, silent_urls};
-use editor_common::{EditorFault, say_made};
+use editor_common::{TalkFault, say_made};
 use editor_http::{Barred, NodeAnswer, Question};
 use editor_ledger::Ledger;
 use editor_plan::{FIRST_ANSWERS, LATER_ANSWERS, last_shown, last_ticket};
@@ -116,9 +115,8 @@ fn ask_again<'a, R: Net<Stream = TcpStream> + Clock + AllocGlobal, E: Write>(
     err: &mut E,
     all: &mut [Said<'a>],
     questions: &[Question<'_>],
-) -> Result<(), EditorFault>
+) -> Result<(), TalkFault>
     ensures is { length all.new ≡ length all.old }
-    ensures faults { IfErr result IsOfTalk }
 {
     let silent = those_silent(rt.alloc(), all)?;
     if silent.is_empty() {
@@ -149,9 +147,8 @@ fn first_reports<'a, R: Net<Stream = TcpStream> + Clock + AllocGlobal, E: Write>
     err: &mut E,
     nodes: &'a [Address],
     published: Published,
-) -> Result<Vec<Report<'a>>, EditorFault>
+) -> Result<Vec<Report<'a>>, TalkFault>
     ensures is { IfOk result (λ reports. vec_len reports ≡ length nodes.now) }
-    ensures faults { IfErr result IsOfTalk }
 {
     let questions = questions_of(rt.alloc(), published)?;
     let asked: Vec<&Address> = nodes.iter().collect(rt.alloc())?;
@@ -192,9 +189,8 @@ fn ask_pages<R: Net<Stream = TcpStream> + Clock + AllocGlobal>(
     rt: &R,
     reports: &mut [Report<'_>],
     release: u64,
-) -> Result<(), EditorFault>
+) -> Result<(), TalkFault>
     ensures is { length reports.new ≡ length reports.old }
-    ensures faults { IfErr result IsOfTalk }
 {
     let answering = those_that_answer(rt.alloc(), reports)?;
     let question = [Question::Page(release, "/")];
@@ -213,9 +209,8 @@ pub(crate) fn reports_of<'a, R: Net<Stream = TcpStream> + Clock + AllocGlobal, E
     err: &mut E,
     nodes: &'a [Address],
     published: Published,
-) -> Result<Vec<Report<'a>>, EditorFault>
+) -> Result<Vec<Report<'a>>, TalkFault>
     ensures is { IfOk result (λ reports. vec_len reports ≡ length nodes.now) }
-    ensures faults { IfErr result IsOfTalk }
 {
     let mut reports = first_reports(rt, err, nodes, published)?;
     let common = range_of(&reports).common;

@@ -1,7 +1,6 @@
 //! What each node of a group says of itself, told.
 ghost use Rattle.std.specs.Prelude.{◌≡◌, ◌==◌, ◌&&◌, nat_le, if◌then◌else◌, length, IfErr, IfOk, OnOk, Some};
 ghost use Rattle.std.specs.Prelude.{None};
-ghost use Rattle.editor_common.specs.Faults.{IsOfTalk};
 ghost use Rattle.serde_json.specs.View.{view};
 ghost use Rattle.editor_common.specs.Outcomes.{kept};
 ghost use Rattle.editor_group.specs.Statuses.{is_well, EndsStatus, EndsTelling, IsNode, TellsCommands};
@@ -9,7 +8,7 @@ ghost use Rattle.editor_group.specs.Statuses.{TellsNodes};
 
 use crate::group::Group;
 use crate::reports::{Published, Range, Report, range_of, reports_of};
-use editor_common::{EditorFault, Outcome, say_made};
+use editor_common::{EditorFault, Outcome, TalkFault, say_made};
 use editor_http::NodeAnswer;
 use serde_json::{Map, Value, put};
 use site_ids::MAX_INSTANCE;
@@ -78,9 +77,7 @@ fn tell_answer<W: Write>(
     newest: u64,
     range: Range,
     same: Option<bool>,
-) -> Result<(), EditorFault>
-    ensures faults { IfErr result IsOfTalk }
-{
+) -> Result<(), TalkFault> {
     let behind = range.last.saturating_sub(newest);
     let page = match same {
         None => "-",
@@ -99,9 +96,7 @@ fn tell<W: Write>(
     report: &Report<'_>,
     row: Row,
     range: Range,
-) -> Result<(), EditorFault>
-    ensures faults { IfErr result IsOfTalk }
-{
+) -> Result<(), TalkFault> {
     let url = report.node.url.as_str();
     match row.newest {
         Some(newest) => tell_answer(alloc, out, url, report.millis, newest, range, row.same),
@@ -135,9 +130,7 @@ fn node_value(alloc: Global, report: &Report<'_>, row: Row) -> Result<Value, All
     Ok(Value::Object(members))
 }
 
-fn tell_head<W: Write>(alloc: Global, out: &mut W, common: u64) -> Result<(), EditorFault>
-    ensures faults { IfErr result IsOfTalk }
-{
+fn tell_head<W: Write>(alloc: Global, out: &mut W, common: u64) -> Result<(), TalkFault> {
     say_made(
         out,
         format!(in alloc; "node                                 ms  release  behind  /@{common}/"),
@@ -151,9 +144,8 @@ fn tell_all<W: Write>(
     outcome: &mut Outcome,
     reports: &[Report<'_>],
     range: Range,
-) -> Result<bool, EditorFault>
+) -> Result<bool, TalkFault>
     ensures is { IfOk result (λ well. TellsNodes (length reports.now) range.last well (kept outcome.new)) }
-    ensures faults { IfErr result IsOfTalk }
 {
     tell_head(alloc, out, range.common)?;
     let first = reports.iter().find_map(|report| report.page.as_ref());
@@ -175,9 +167,7 @@ fn tell_barred<W: Write>(
     alloc: Global,
     out: &mut W,
     reports: &[Report<'_>],
-) -> Result<(), EditorFault>
-    ensures faults { IfErr result IsOfTalk }
-{
+) -> Result<(), TalkFault> {
     for report in reports {
         if let Some(why) = report.barred {
             let url = report.node.url.as_str();
@@ -193,9 +183,8 @@ fn tell_commands<W: Write>(
     out: &mut W,
     outcome: &mut Outcome,
     reports: &[Report<'_>],
-) -> Result<(), EditorFault>
+) -> Result<(), TalkFault>
     ensures is { OnOk result (TellsCommands (kept outcome.old) (kept outcome.new)) }
-    ensures faults { IfErr result IsOfTalk }
 {
     let least = reports.iter().filter_map(|report| report.instance).max();
     outcome.put(alloc, "commands_at_least", Value::from(least))?;
@@ -216,9 +205,8 @@ fn tell_returning<W: Write>(
     out: &mut W,
     last: u64,
     shown: u64,
-) -> Result<bool, EditorFault>
+) -> Result<bool, TalkFault>
     ensures is { IfOk result (λ is. is ≡ nat_le shown last) }
-    ensures faults { IfErr result IsOfTalk }
 {
     if last >= shown {
         return Ok(true);

@@ -51,10 +51,10 @@ fn tell_folder<W: Write>(
     made: &Imported,
 ) -> Result<(), EditorFault> {
     let (pages, redirects, left) = (made.pages, made.redirects, made.left_out.len());
-    say_made(
+    Ok(say_made(
         out,
         format!(in alloc; "{folder}: pages: {pages}, redirects: {redirects}; left out: {left}"),
-    )
+    )?)
 }
 
 /// Writes what can be done about pages that are too long, if some are.
@@ -70,12 +70,12 @@ fn tell_too_long<E: Write>(
     if count == 0 {
         return Ok(());
     }
-    say_made(
+    Ok(say_made(
         err,
         format!(in alloc;
             "pages too long: {count}. If each page repeats the navigation of the whole site, have the generator write less of it (fewer levels, or the section of the page alone), and import again. Or nginx shows these pages beside the others: docs/GUIDE.md, \"From another generator\""
         ),
-    )
+    )?)
 }
 
 /// Writes that no page was taken: none is there, or each was left out.
@@ -90,7 +90,7 @@ fn tell_no_page<E: Write>(
     } else {
         format!(in alloc; "{pages}: each of its pages is left out, so no folder was written")
     };
-    say_made(err, line)
+    Ok(say_made(err, line)?)
 }
 
 /// Writes a folder of the pages that a generator wrote, tells what it leaves out of them, and gives the exit

@@ -50,7 +50,7 @@ fn tell<W: Write>(
         return Ok(());
     };
     let line = format!(in alloc; "http://{address}/ shows {folder} as it is; Ctrl-C ends it")?;
-    say(out, line.as_str())
+    Ok(say(out, line.as_str())?)
 }
 
 /// Answers whoever asks, each by the folder as it is then.

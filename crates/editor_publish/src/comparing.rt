@@ -188,7 +188,7 @@ fn tell_difference<E: Write>(
     } else {
         "was not answered"
     };
-    say_made(err, format!(in alloc; "{url}/@{release}{path}: {why}"))
+    Ok(say_made(err, format!(in alloc; "{url}/@{release}{path}: {why}"))?)
 }
 
 /// So many pages are told one by one, and then how many more there are.
@@ -206,10 +206,10 @@ fn tell_more<E: Write>(
     if more == 0 {
         return Ok(());
     }
-    say_made(
+    Ok(say_made(
         err,
         format!(in alloc; "{url}/@{release}/: and {more} more pages"),
-    )
+    )?)
 }
 
 /// Tells once why pages may be shown otherwise, with their number, and what to do.
@@ -217,12 +217,12 @@ fn tell_why<E: Write>(alloc: Global, err: &mut E, otherwise: usize) -> Result<()
     if otherwise == 0 {
         return Ok(());
     }
-    say_made(
+    Ok(say_made(
         err,
         format!(in alloc;
             "pages that this folder renders otherwise, or removes: {otherwise}. Another editor has put them, or has put or removed a name that they use, or another copy of this folder was published at the same time. To have them as this folder has them publish with --take-over"
         ),
-    )
+    )?)
 }
 
 /// Tells each page that was not answered as it is wanted, and once why that may be. Their paths are the

@@ -66,7 +66,7 @@ fn change_name(change: &Change) -> &'static str {
 
 fn tell_page<W: Write>(alloc: Global, out: &mut W, change: &Change) -> Result<(), EditorFault> {
     let (path, what) = (change.view.path.as_str(), change_name(change));
-    say_made(out, format!(in alloc; "page {path} {what}"))
+    Ok(say_made(out, format!(in alloc; "page {path} {what}"))?)
 }
 
 /// The pages that change, for programs.

@@ -49,10 +49,10 @@ pub(crate) fn tell_disk<R: Files + AllocGlobal + Clone + Drop, E: Write>(
     if same {
         return Ok(());
     }
-    say_made(
+    Ok(say_made(
         err,
         format!(in alloc;
             "{folder}: its files are not those of release {release}, and publishing it without --release puts them again; sitepub restore {folder} {release} OUT writes those of the release"
         ),
-    )
+    )?)
 }

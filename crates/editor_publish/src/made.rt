@@ -91,10 +91,10 @@ pub(crate) fn tell_made<W: Write>(
         }
     };
     let noun = if commands == 1 { "command" } else { "commands" };
-    say_made(
+    Ok(say_made(
         out,
         format!(in alloc; "release {release}{whose}, of {commands} {noun}: {url}/@{release}/"),
-    )
+    )?)
 }
 
 /// A release that was made, as one JSON object.

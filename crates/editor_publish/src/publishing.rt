@@ -89,12 +89,12 @@ fn publish_wanted<
 
 /// Tells that a folder has no page.
 fn tell_no_page<E: Write>(alloc: Global, err: &mut E, folder: &str) -> Result<(), EditorFault> {
-    say_made(
+    Ok(say_made(
         err,
         format!(in alloc;
             "{folder}: no page, so nothing was sent: each line of its file routes is one"
         ),
-    )
+    )?)
 }
 
 /// Publishes a folder without a fault.

@@ -331,12 +331,12 @@ pub(crate) fn tell_left_over<E: Write>(
         return Ok(());
     }
     let most = least.saturating_add(on_their_way as u64);
-    say_made(
+    Ok(say_made(
         err,
         format!(in alloc;
             "{folder}: commands of this folder that are in the log without a release of it: {least} at least, {most} at most. They go live with the next release that any editor makes"
         ),
-    )
+    )?)
 }
 
 /// Tells paths after a word, the first of them one by one.

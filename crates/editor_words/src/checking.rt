@@ -32,12 +32,12 @@ fn tell_passed_over<E: Write>(
     } else {
         "files and folders"
     };
-    say_made(
+    Ok(say_made(
         err,
         format!(in alloc;
             "{folder}: {count} {noun} passed over: names with a ~ behind, README, and by --ignore others"
         ),
-    )
+    )?)
 }
 
 /// How many pages of a folder are redirects.
@@ -60,19 +60,19 @@ fn tell_clean<W: Write>(
     let pages = read.pages.len().saturating_sub(redirects);
     let line = format!(in alloc; "{folder}: no fault; commands: {commands}, pages: {pages}")?;
     if redirects == 0 {
-        return say(out, line.as_str());
+        return Ok(say(out, line.as_str())?);
     }
-    say_made(out, format!(in alloc; "{line}, redirects: {redirects}"))
+    Ok(say_made(out, format!(in alloc; "{line}, redirects: {redirects}"))?)
 }
 
 /// Writes that a folder has no page.
 fn tell_no_page<E: Write>(alloc: Global, err: &mut E, folder: &str) -> Result<(), EditorFault> {
-    say_made(
+    Ok(say_made(
         err,
         format!(in alloc;
             "{folder}: no page, so publish refuses it: each line of its file routes is one"
         ),
-    )
+    )?)
 }
 
 /// What no page of a folder comes to, where that is asked of one without a fault.

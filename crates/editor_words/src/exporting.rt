@@ -21,7 +21,7 @@ fn tell_no_copy<E: Write>(
         NoCopy::Taken => "meets the file of another route",
     };
     let line = format!(in alloc; "{folder}/{of}:{number}:1: {path} {why}")?;
-    say(err, line.as_str())
+    Ok(say(err, line.as_str())?)
 }
 
 /// The file of a page; nothing where it has none, which is told.
@@ -127,7 +127,7 @@ fn write_pages<R: Files + AllocGlobal, E: Write>(
 
 fn tell_full<E: Write>(alloc: Global, err: &mut E, folder: &str) -> Result<(), EditorFault> {
     let line = format!(in alloc; "{folder}: is not an empty folder")?;
-    say(err, line.as_str())
+    Ok(say(err, line.as_str())?)
 }
 
 /// Whether files can be written into a folder, as it is absent or empty. That it isn't is told.

@@ -91,7 +91,7 @@ fn tell_all<W: Write>(
 
 fn tell_none<E: Write>(alloc: Global, err: &mut E, folder: &str) -> Result<(), EditorFault> {
     let line = format!(in alloc; "{folder}: nothing was published from here")?;
-    say(err, line.as_str())
+    Ok(say(err, line.as_str())?)
 }
 
 /// Writes the releases that were made of a folder, the oldest first, and gives the exit status. The releases

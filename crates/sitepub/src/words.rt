@@ -83,7 +83,7 @@ fn write_outcome<W: Write>(
     status: u8,
 ) -> Result<(), EditorFault> {
     outcome.put(alloc, "status", Value::from(status))?;
-    say_made(out, outcome.spelled(alloc))
+    Ok(say_made(out, outcome.spelled(alloc))?)
 }
 
 /// The words of the command line.
