@@ -32,7 +32,10 @@ pub record IsReady {D : Type 0} (stands_for : D → DiskState → Type 0) (store
 
 -- only room for a slot, or for what waits in a batch, has changed, which cannot be seen
 pub record IsUnchanged {D : Type 0} (old new : Record D) : Type 0 where
-  pub same : new ≡ record old { recorded = record old.recorded { slots = new.recorded.slots }; staged = new.staged }
+  pub same : new ≡ record old {
+    recorded = record old.recorded { slots = new.recorded.slots };
+    staged = new.staged;
+  }
   pub staged : new.staged.bytes.items ≡ old.staged.bytes.items
   pub base : new.staged.base ≡ old.staged.base
   pub slots : (i : ℕ) → cell_at new.recorded.slots i ≡ cell_at old.recorded.slots i

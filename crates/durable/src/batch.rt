@@ -52,7 +52,12 @@ impl<D: Disk> Record<D> {
             ⊎ IsErrOf result RecordFault.Device) }
         ensures stops { OnErr result (self.new
             ≡ record self.old { disk = self.new.disk; stopped = true; staged = self.new.staged }) }
-        ensures same { self.new ≡ record self.old { disk = self.new.disk; stopped = self.new.stopped; staged = self.new.staged; recorded = record self.old.recorded { gate = self.new.recorded.gate } } }
+        ensures same { self.new ≡ record self.old {
+          disk = self.new.disk;
+          stopped = self.new.stopped;
+          staged = self.new.staged;
+          recorded = record self.old.recorded { gate = self.new.recorded.gate };
+        } }
     {
         if self.stopped {
             return Err(RecordFault::Stopped);

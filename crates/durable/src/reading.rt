@@ -132,7 +132,8 @@ fn take_item(
 ) -> Result<Taken, RecordFault>
     requires fits { recorded.old.gate + length bytes.now < 2 ^ 64 }
     requires whole { (is_last ≡ true) ⊎ (32784 ≤ length bytes.now) }
-    ensures taken { IfOk result (λ taken. TakesItem cluster bytes.now is_last recorded.old recorded.new taken) }
+    ensures taken { IfOk result (λ taken.
+        TakesItem cluster bytes.now is_last recorded.old recorded.new taken) }
     ensures damaged { IsErrOf result RecordFault.Damaged
         → (recorded.new.gate ≡ recorded.old.gate)
         × IsDamagedItem cluster bytes.now is_last recorded.old }
@@ -156,7 +157,8 @@ fn take_put(
     requires fits { recorded.old.gate + length bytes.now < 2 ^ 64 }
     requires whole { (is_last ≡ true) ⊎ (32784 ≤ length bytes.now) }
     requires unsummed { HasNoSum bytes.now }
-    ensures taken { IfOk result (λ taken. TakesItem cluster bytes.now is_last recorded.old recorded.new taken) }
+    ensures taken { IfOk result (λ taken.
+        TakesItem cluster bytes.now is_last recorded.old recorded.new taken) }
     ensures damaged { IsErrOf result RecordFault.Damaged
         → (recorded.new.gate ≡ recorded.old.gate)
         × IsDamagedItem cluster bytes.now is_last recorded.old }
@@ -188,7 +190,8 @@ fn take_summed(
 ) -> Result<Taken, RecordFault>
     requires fits { recorded.old.gate + length bytes.now < 2 ^ 64 }
     requires at { IsSumAt bytes.now sum.size sum.sum }
-    ensures taken { IfOk result (λ taken. TakesItem cluster bytes.now is_last recorded.old recorded.new taken) }
+    ensures taken { IfOk result (λ taken.
+        TakesItem cluster bytes.now is_last recorded.old recorded.new taken) }
     ensures damaged { IsErrOf result RecordFault.Damaged
         → (recorded.new.gate ≡ recorded.old.gate)
         × IsDamagedItem cluster bytes.now is_last recorded.old }

@@ -16,7 +16,8 @@ pub enum EditorFault {
     /// Why a group or a ledger lets nothing go on, and what to do.
     #[error("{0}")]
     Stop(String),
-    #[error("the numbers of the commands of this editor are used up: move the file published away (log, restore and publish --release need it), and publish with --take-over")]
+    #[error("the numbers of the commands of this editor are used up: move the file published away (log, \
+        restore and publish --release need it), and publish with --take-over")]
     NoTickets,
     #[error("no node is named: give the address of one, as http://127.0.0.1:8001")]
     NoNodes,

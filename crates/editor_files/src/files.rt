@@ -246,7 +246,7 @@ fn take_at<R: Files + AllocGlobal>(
 }
 
 /// Whether a name begins with a dot: git's and editors' own, of which nobody wants to be told.
-fn is_hidden(path: &str) -> bool {
+fn begins_with_a_dot(path: &str) -> bool {
     path.rsplit_once('/')
         .map_or(path, |(_, name)| name)
         .starts_with('.')
@@ -263,7 +263,7 @@ fn take<R: Files + AllocGlobal>(
         return Ok(());
     }
     if search.wanted.passes_over(path) {
-        if !is_hidden(path) {
+        if !begins_with_a_dot(path) {
             search.pass_over();
         }
         return Ok(());

@@ -16,7 +16,8 @@ fn lost(
 ) -> Result<EditorFault, AllocError> {
     let words = match ticket {
         Some(_) => format!(in alloc;
-            "{folder}/published: keeps no texts of release {release}, as the sitepub that made it kept none: take them from git, or from a backup"
+            "{folder}/published: keeps no texts of release {release}, as the sitepub that made it kept none: \
+             take them from git, or from a backup"
         )?,
         None => format!(in alloc;
             "{folder}: has made no release {release}: sitepub log {folder} tells which it has"

@@ -29,6 +29,7 @@ fn ledger_in(alloc: Global, path: &str, text: &str) -> Result<Ledger, EditorFaul
     }
 }
 
+/// The text of the file at a path. What is no file is not opened, since to read a queue would wait for ever.
 fn text_at<R: Files + AllocGlobal>(rt: &R, path: &str) -> io::Result<String> {
     if fs::metadata(rt, path)?.is_file() {
         fs::read_to_string(rt, path)

@@ -116,12 +116,14 @@ fn wrong_within(inside: Inside, behind: &[u8]) -> Option<&'static str> {
     match (inside, behind.first()) {
         (_, Some(0..=31)) => {
             Some(
-                "no JSON: a text holds no line break and no tab: write \\n or \\t, or close it with a double quote",
+                "no JSON: a text holds no line break and no tab: write \\n or \\t, or close it with a double \
+                 quote",
             )
         }
         (Inside::Text, Some(b'\\')) if !is_escape(behind.get(1..).unwrap_or(&[])) => {
             Some(
-                "no JSON: a backslash stands before one of \" \\ / b f n r t, or u and four digits: write \\\\ for itself",
+                "no JSON: a backslash stands before one of \" \\ / b f n r t, or u and four digits: write \
+                 \\\\ for itself",
             )
         }
         _ => None,

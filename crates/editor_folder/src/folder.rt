@@ -375,7 +375,8 @@ const PASSES: [Pass; 7] = [
 
 /// Why the command of a line of `redirects` is none, and what to do.
 const REDIRECT_REASON: &str =
-    "a path and its target begin with /, with neither /_ nor /@, have 200 bytes at most, and no blank; a target begins with one / alone";
+    "a path and its target begin with /, with neither /_ nor /@, have 200 bytes at most, and no blank; a \
+     target begins with one / alone";
 
 /// Why a line's command is none, and what to do.
 fn line_reason(fault: &CommandFault) -> &'static str {

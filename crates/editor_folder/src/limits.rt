@@ -205,11 +205,13 @@ impl<'a> Nesting<'a> {
         if self.is_endless(number) {
             let partial = self.round_below(number);
             format!(in alloc;
-                "the {partial} comes to call itself, and partials may nest {most} deep: let data end that (an empty list in the innermost item), or take the call away; where they end it, {COST}"
+                "the {partial} comes to call itself, and partials may nest {most} deep: let data end that \
+                 (an empty list in the innermost item), or take the call away; where they end it, {COST}"
             )
         } else if depth > most {
             format!(in alloc;
-                "its partials can nest {depth} deep, and may {most} deep: put inner ones into those that call them; where data keep them from it, {COST}"
+                "its partials can nest {depth} deep, and may {most} deep: put inner ones into those that \
+                 call them; where data keep them from it, {COST}"
             )
         } else {
             String::from_str(alloc, COST)
@@ -219,4 +221,5 @@ impl<'a> Nesting<'a> {
 
 /// That a page costs too much, and what to do.
 const COST: &str =
-    "it costs more than 1,000,000 (each tag, each item of a list and each byte printed is 1): part it, or shorten its lists";
+    "it costs more than 1,000,000 (each tag, each item of a list and each byte printed is 1): part it, or \
+     shorten its lists";

@@ -15,6 +15,11 @@ pub(crate) fn moved_page(alloc: Global, target: &str) -> Result<String, AllocErr
     let mut name = String::new(alloc);
     escape_into(target, &mut name)?;
     format!(in alloc;
-        "<!DOCTYPE html>\n<meta charset=\"utf-8\">\n<link rel=\"canonical\" href=\"{url}\">\n<meta http-equiv=\"refresh\" content=\"0; url={url}\">\n<title>Moved</title>\n<p>Moved to <a href=\"{url}\">{name}</a></p>\n"
+        "<!DOCTYPE html>\n\
+         <meta charset=\"utf-8\">\n\
+         <link rel=\"canonical\" href=\"{url}\">\n\
+         <meta http-equiv=\"refresh\" content=\"0; url={url}\">\n\
+         <title>Moved</title>\n\
+         <p>Moved to <a href=\"{url}\">{name}</a></p>\n"
     )
 }

@@ -78,7 +78,8 @@ pub(crate) fn role_of(path: &str) -> Role<'_> {
         );
     }
     Role::Wrong(
-        "is no part of a site (templates, partials, data, routes, redirects, removes): move it out of the folder, or --ignore",
+        "is no part of a site (templates, partials, data, routes, redirects, removes): move it out of the \
+         folder, or --ignore",
     )
 }
 

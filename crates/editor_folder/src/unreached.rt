@@ -18,7 +18,8 @@ pub(crate) fn mark_in(alloc: Global, path: &str) -> Result<Option<String>, Alloc
     for (mark, spelling, what) in MARKS {
         if path.contains(mark) {
             return Ok(Some(format!(in alloc;
-                "in {path} `{mark}` is part of the path, so a link has to spell it {spelling}: browsers read it as {what}"
+                "in {path} `{mark}` is part of the path, so a link has to spell it {spelling}: browsers read \
+                 it as {what}"
             )?));
         }
     }

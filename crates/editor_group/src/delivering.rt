@@ -206,7 +206,7 @@ fn too_slow(alloc: Global, group: &Group, patience: u64) -> EditorFault
 }
 
 /// Sends, as the clock says, until nothing is on its way.
-#[tactic(auto, using(crate::proofs::Faults::exchange_ends_delivery, crate::proofs::Faults::talk_ends_delivery))]
+#[tactic(auto, using(crate::proofs::Faults::exchange_ends_delivery, crate::proofs::Faults::talk_ends_delivery,))]
 fn deliver_at<R: Net<Stream = TcpStream> + Files + Clock + AllocGlobal, E: Write>(
     rt: &R,
     err: &mut E,

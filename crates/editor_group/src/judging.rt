@@ -130,17 +130,29 @@ fn reason(
     match found {
         Standing::Older => {
             format!(in alloc;
-                "its file published is older than what the group has of editor {editor}, whose command {next} is in the log already. Another copy of this folder has published, or this file went back.\nTake the newest copy of the file and publish again. Or move it away (log, restore and publish --release need it), and publish with --take-over: what the folder has no more is then to be listed in its file removes"
+                "its file published is older than what the group has of editor {editor}, whose command \
+                 {next} is in the log already. Another copy of this folder has published, or this file went \
+                 back.\nTake the newest copy of the file and publish again. Or move it away (log, restore \
+                 and publish --release need it), and publish with --take-over: what the folder has no more \
+                 is then to be listed in its file removes"
             )
         }
         Standing::Elsewhere => {
             format!(in alloc;
-                "no node that answers has command {last} of editor {editor}, which is in the file published, so nothing was sent. Nodes that were down need a majority to learn what they had: see that one runs, and publish again.\nIf this is another group, or a new one, move the file away (log, restore and publish --release need it), and publish with --take-over: mv '{folder}/published' '{folder}.published'"
+                "no node that answers has command {last} of editor {editor}, which is in the file published, \
+                 so nothing was sent. Nodes that were down need a majority to learn what they had: see that \
+                 one runs, and publish again.\nIf this is another group, or a new one, move the file away \
+                 (log, restore and publish --release need it), and publish with --take-over: mv \
+                 '{folder}/published' '{folder}.published'"
             )
         }
         Standing::Returning => {
             format!(in alloc;
-                "no node that answers shows release {shown}, which this folder made, so nothing was sent: the group is still coming back, or is another one. See that a majority of its nodes runs (sitepub status), and publish again.\nIf this is another group, or a new one, move the file published away (log, restore and publish --release need it), and publish with --take-over: mv '{folder}/published' '{folder}.published'"
+                "no node that answers shows release {shown}, which this folder made, so nothing was sent: \
+                 the group is still coming back, or is another one. See that a majority of its nodes runs \
+                 (sitepub status), and publish again.\nIf this is another group, or a new one, move the file \
+                 published away (log, restore and publish --release need it), and publish with --take-over: \
+                 mv '{folder}/published' '{folder}.published'"
             )
         }
         Standing::Unanswered | Standing::Newest => {
@@ -316,10 +328,14 @@ fn tell_waiting<E: Write>(
     } = claim;
     let line = match found {
         Standing::Returning => format!(in alloc;
-            "no node that answers shows release {shown}, which is in {folder}/published: waiting {patience} seconds, as a group that comes back may. If this is another group, or a new one, stop this, and move that file away: mv '{folder}/published' '{folder}.published'"
+            "no node that answers shows release {shown}, which is in {folder}/published: waiting {patience} \
+             seconds, as a group that comes back may. If this is another group, or a new one, stop this, and \
+             move that file away: mv '{folder}/published' '{folder}.published'"
         ),
         Standing::Elsewhere => format!(in alloc;
-            "no node that answers has command {last} of editor {editor}, which is in {folder}/published: waiting {patience} seconds, as a group that comes back may. If this is another group, or a new one, stop this, and move that file away: mv '{folder}/published' '{folder}.published'"
+            "no node that answers has command {last} of editor {editor}, which is in {folder}/published: \
+             waiting {patience} seconds, as a group that comes back may. If this is another group, or a new \
+             one, stop this, and move that file away: mv '{folder}/published' '{folder}.published'"
         ),
         _ => String::from_str(alloc, "no node answers: waiting"),
     };
@@ -396,7 +412,7 @@ pub fn look_at<R: Net<Stream = TcpStream> + Clock + AllocGlobal, E: Write>(
 
 /// Asks until a node confirms that a folder's ledger is the newest of its editor, which is spoken to from
 /// then on; or one says that there is a newer one, or so many seconds have passed: then it is refused.
-#[tactic(auto, using(crate::proofs::Faults::asking_ends_confirming, crate::proofs::Faults::refusal_ends_confirming))]
+#[tactic(auto, using(crate::proofs::Faults::asking_ends_confirming, crate::proofs::Faults::refusal_ends_confirming,))]
 pub fn confirm<R: Net<Stream = TcpStream> + Clock + AllocGlobal, E: Write>(
     rt: &R,
     err: &mut E,

@@ -23,7 +23,8 @@ fn tell_silence<R: Net<Stream = TcpStream> + Clock + AllocGlobal, E: Write>(
     let silent = silent_nodes(rt, group, NAMING)?;
     let line = if silent.is_empty() {
         format!(in alloc;
-            "no command came into the log for 2 seconds, though each node that is named answers: waiting for a majority, or the node that has the commands is mute"
+            "no command came into the log for 2 seconds, though each node that is named answers: waiting for \
+             a majority, or the node that has the commands is mute"
         )
     } else {
         format!(in alloc;

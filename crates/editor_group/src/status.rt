@@ -214,7 +214,8 @@ fn tell_returning<W: Write>(
     say_made(
         out,
         format!(in alloc;
-            "release {shown} of the folder is shown by no node: the group is still coming back, or is another one"
+            "release {shown} of the folder is shown by no node: the group is still coming back, or is \
+             another one"
         ),
     )?;
     Ok(false)

@@ -73,7 +73,9 @@ fn tell_too_long<E: Write>(
     Ok(say_made(
         err,
         format!(in alloc;
-            "pages too long: {count}. If each page repeats the navigation of the whole site, have the generator write less of it (fewer levels, or the section of the page alone), and import again. Or nginx shows these pages beside the others: docs/GUIDE.md, \"From another generator\""
+            "pages too long: {count}. If each page repeats the navigation of the whole site, have the \
+             generator write less of it (fewer levels, or the section of the page alone), and import again. \
+             Or nginx shows these pages beside the others: docs/GUIDE.md, \"From another generator\""
         ),
     )?)
 }

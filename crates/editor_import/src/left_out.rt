@@ -30,7 +30,8 @@ impl fmt::Display for NotTaken {
             NotTaken::NoCommand(_) => {
                 write!(
                     f,
-                    "a page without a path: one has neither /_ nor /@ in front, {MAX_PATH} bytes at most, and no blank"
+                    "a page without a path: one has neither /_ nor /@ in front, {MAX_PATH} bytes at most, \
+                     and no blank"
                 )
             }
         }

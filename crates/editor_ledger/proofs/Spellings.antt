@@ -69,7 +69,7 @@ same_released a b exact release time commands =
     ∙ ap (λ (n : ℕ). record b { time = n; commands = a.commands }) time
     ∙ ap (λ (n : ℕ). record b { commands = n }) commands
 
--- the byte behind `released`
+-- the byte after `released`
 ninth : List ℕ → Bool
 ninth [] = false
 ninth (x ∷ xs) = eqb x 32
@@ -97,7 +97,7 @@ released_one a b xs ys first second is =
     (sym (append_assoc (decimal a.commands) (10 ∷ []) xs) ∙ time.1 ∙ append_assoc (decimal b.commands) (10 ∷ []) ys) in
     (same_released a b word.0 release.0 time.0 commands.0, commands.1)
 
--- a text of a length that is known, and the newline behind it
+-- a text of a length that is known, and the newline after it
 text_then : (t u xs ys : List ℕ) → length t ≡ length u → (t ++ (10 ∷ [])) ++ xs ≡ (u ++ (10 ∷ [])) ++ ys → (t ≡ u) × (xs ≡ ys)
 text_then t u xs ys long is =
     let fronts = same_front t u (10 ∷ xs) (10 ∷ ys) long (sym (append_assoc t (10 ∷ []) xs) ∙ is ∙ append_assoc u (10 ∷ []) ys) in

@@ -25,4 +25,13 @@ pub record Book : Type 0 where
 
 -- of an editor that has published nothing
 abbrev pub fresh : ℕ → Book
-fresh editor = record { editor = editor; next = 1; last_release = 0; kept = []; sent = []; log = []; past = []; messages = [] }
+fresh editor = record {
+  editor = editor;
+  next = 1;
+  last_release = 0;
+  kept = [];
+  sent = [];
+  log = [];
+  past = [];
+  messages = [];
+}

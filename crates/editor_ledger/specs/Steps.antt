@@ -55,7 +55,9 @@ with_text text kept = filter (λ t. not (are_about_one text t)) kept ++ text ∷
 
 -- the group has the text of the ticket
 abbrev pub noted : Given → Book → Book
-noted given book = if bytes_eq given.text release_text then record book { last_release = given.number } else record book { kept = with_text given.text book.kept }
+noted given book =
+    if bytes_eq given.text release_text then record book { last_release = given.number }
+    else record book { kept = with_text given.text book.kept }
 
 -- a ticket's text is on its way no more
 abbrev pub without : ℕ → Book → Book

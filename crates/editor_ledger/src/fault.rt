@@ -36,13 +36,16 @@ impl<T: Drop> From<AllocFailed<T>> for LedgerFault {
 #[derive(Clone, Copy, Debug, Drop, PartialEq, Eq, Error)]
 pub enum LedgerReadFault {
     /// It is what the script `tools/publish` kept; to `read_old`, with something on its way.
-    #[error("the script tools/publish was interrupted here: publish with that script once more, until it says that nothing has changed, and then with sitepub")]
+    #[error("the script tools/publish was interrupted here: publish with that script once more, until it \
+        says that nothing has changed, and then with sitepub")]
     Old,
     /// The line of that number, from 1, is the first that no ledger has. A text that was cut short lacks it.
-    #[error("line {0} is not what sitepub wrote, or is missing: restore the file from a copy. Or move it away (log, restore and publish --release need it), and publish with --take-over")]
+    #[error("line {0} is not what sitepub wrote, or is missing: restore the file from a copy. Or move it \
+        away (log, restore and publish --release need it), and publish with --take-over")]
     Line(usize),
     /// Each line is one of a ledger, and the sum in the last line is another one's.
-    #[error("this is not what sitepub wrote, as the sum in its last line tells: restore the file from a copy. Or move it away (log, restore and publish --release need it), and publish with --take-over")]
+    #[error("this is not what sitepub wrote, as the sum in its last line tells: restore the file from a \
+        copy. Or move it away (log, restore and publish --release need it), and publish with --take-over")]
     Sum,
     #[error("out of memory")]
     OutOfMemory,

@@ -7,6 +7,6 @@ pub struct Released {
     pub time: u64,
     /// How many commands it shows that none showed before.
     pub commands: u64,
-    /// Whether it is that release; else it is that one or one before it, as others released as well.
+    /// Whether it is that release; else it is that one or an earlier one, as others released as well.
     pub exact: bool,
 }

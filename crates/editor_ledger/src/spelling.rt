@@ -48,7 +48,7 @@ fn kept_entry(alloc: Global, text: &str) -> Result<String, AllocError>
     format!(in alloc; "has {length}\n{text}\n")
 }
 
-/// A text behind the line of a word, a number and its length.
+/// A text after the line of a word, a number and its length.
 fn numbered_entry(alloc: Global, word: &str, number: u64, text: &str) -> Result<String, AllocError>
     ensures { IfOk result (λ entry. string_bytes entry
         ≡ numbered_entry word.now (record { number = number; text = text.now })) }

@@ -220,7 +220,9 @@ fn tell_why<E: Write>(alloc: Global, err: &mut E, otherwise: usize) -> Result<()
     Ok(say_made(
         err,
         format!(in alloc;
-            "pages that this folder renders otherwise, or removes: {otherwise}. Another editor has put them, or has put or removed a name that they use, or another copy of this folder was published at the same time. To have them as this folder has them publish with --take-over"
+            "pages that this folder renders otherwise, or removes: {otherwise}. Another editor has put them, \
+             or has put or removed a name that they use, or another copy of this folder was published at the \
+             same time. To have them as this folder has them publish with --take-over"
         ),
     )?)
 }

@@ -52,7 +52,8 @@ pub(crate) fn tell_disk<R: Files + AllocGlobal + Clone + Drop, E: Write>(
     Ok(say_made(
         err,
         format!(in alloc;
-            "{folder}: its files are not those of release {release}, and publishing it without --release puts them again; sitepub restore {folder} {release} OUT writes those of the release"
+            "{folder}: its files are not those of release {release}, and publishing it without --release \
+             puts them again; sitepub restore {folder} {release} OUT writes those of the release"
         ),
     )?)
 }

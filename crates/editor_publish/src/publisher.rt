@@ -70,7 +70,8 @@ impl<R: Files + Net<Stream = TcpStream> + Clock + AllocGlobal, E: Write> Publish
             say_made(
                 self.err,
                 format!(in self.rt.alloc();
-                    "{folder}: the group may have what was sent, and the file published can't be written: once it can, publish again"
+                    "{folder}: the group may have what was sent, and the file published can't be written: \
+                     once it can, publish again"
                 ),
             )?;
         }

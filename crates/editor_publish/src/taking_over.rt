@@ -298,7 +298,8 @@ fn what_was_sent(left: LeftOver) -> &'static str {
 pub(crate) fn others_have_put(alloc: Global, left: LeftOver) -> Result<EditorFault, AllocError> {
     let nothing = what_was_sent(left);
     Ok(EditorFault::Stop(format!(in alloc;
-        "{nothing} was sent: others have put what this folder would replace or remove. With --take-over the paths above become this folder's"
+        "{nothing} was sent: others have put what this folder would replace or remove. With --take-over the \
+         paths above become this folder's"
     )?))
 }
 
@@ -307,7 +308,9 @@ pub(crate) fn refusal_of(alloc: Global, taken: &Taken) -> Result<Option<EditorFa
     let (release, nothing) = (taken.release, what_was_sent(taken.left_over));
     if taken.joins {
         return Ok(Some(EditorFault::Stop(format!(in alloc;
-            "{nothing} was sent: the group has release {release}, and nothing in it is known to be from this folder. If others have templates, partials or data of the same names, this folder would replace them, which no node tells. With --take-over it does"
+            "{nothing} was sent: the group has release {release}, and nothing in it is known to be from this \
+             folder. If others have templates, partials or data of the same names, this folder would replace \
+             them, which no node tells. With --take-over it does"
         )?)));
     }
     if taken.paths.is_empty() {
@@ -334,7 +337,8 @@ pub(crate) fn tell_left_over<E: Write>(
     Ok(say_made(
         err,
         format!(in alloc;
-            "{folder}: commands of this folder that are in the log without a release of it: {least} at least, {most} at most. They go live with the next release that any editor makes"
+            "{folder}: commands of this folder that are in the log without a release of it: {least} at \
+             least, {most} at most. They go live with the next release that any editor makes"
         ),
     )?)
 }

@@ -11,14 +11,14 @@ use std::rt::Files;
 #[derive(Clone, Copy)]
 pub struct Checking<'a> {
     pub folder: &'a str,
-    /// Files that are no part of a site are passed over.
+    /// Files that are no part of a site are ignored.
     pub ignore: bool,
     /// What no page comes to is told too.
     pub unused: bool,
 }
 
-/// Writes how many files and folders were passed over, if any.
-fn tell_passed_over<E: Write>(
+/// Writes how many files and folders were ignored, if any.
+fn tell_ignored<E: Write>(
     alloc: Global,
     err: &mut E,
     folder: &str,
@@ -35,7 +35,7 @@ fn tell_passed_over<E: Write>(
     Ok(say_made(
         err,
         format!(in alloc;
-            "{folder}: {count} {noun} passed over: names with a ~ behind, README, and by --ignore others"
+            "{folder}: {count} {noun} ignored: names that end with ~, README, and by --ignore others"
         ),
     )?)
 }
@@ -112,7 +112,7 @@ fn tell<W: Write, E: Write>(
     read: &Read,
     unused: &[Finding],
 ) -> Result<u8, EditorFault> {
-    tell_passed_over(alloc, err, how.folder, read.passed_over)?;
+    tell_ignored(alloc, err, how.folder, read.passed_over)?;
     tell_findings(alloc, err, how.folder, &read.findings)?;
     if read.has_fault() {
         return Ok(1);

@@ -16,9 +16,24 @@ fn cluster_matches<'a>(alloc: Global, words: &'a [String]) -> Result<ArgMatches<
     ensures refused { FailsBy (fault_of cluster_app (words_of words.entry.now)) result }
 {
     let does =
-        "Runs three servers of a site on this machine by a script on standard input, and prints what they answer";
-    let example =
-        "Lines of a script, P a server, 1 to 3:\n  post P E K LENGTH  posts the LENGTH bytes after this line to P, as command K of editor E\n  get P TARGET       asks P for a page, such as / or /_newest\n  drive P K          lets P take K turns, and then propose what waits\n  turns K            lets each server take 20 turns, K times\n\nExample, a script of these lines:\n  post 1 7 1 8\n  release\n\n  drive 1 0\n  drive 1 0\n  drive 2 9\n  drive 1 9\n  drive 2 9\n  drive 1 9\n  get 1 /_newest\n\n--version prints the program's version";
+        "Runs three servers of a site on this machine by a script on standard input, and prints what they \
+         answer";
+    let example = "Lines of a script, P a server, 1 to 3:\
+         \n  post P E K LENGTH  posts the LENGTH bytes after this line to P, as command K of editor E\
+         \n  get P TARGET       asks P for a page, such as / or /_newest\
+         \n  drive P K          lets P take K turns, and then propose what waits\
+         \n  turns K            lets each server take 20 turns, K times\
+         \n\nExample, a script of these lines:\
+         \n  post 1 7 1 8\
+         \n  release\
+         \n\n  drive 1 0\
+         \n  drive 1 0\
+         \n  drive 2 9\
+         \n  drive 1 9\
+         \n  drive 2 9\
+         \n  drive 1 9\
+         \n  get 1 /_newest\
+         \n\n--version prints the program's version";
     let command = described(alloc, "sitecluster", does, example);
     command.try_get_matches_from(words)
 }

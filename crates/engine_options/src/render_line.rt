@@ -30,8 +30,9 @@ fn render_matches<'a>(alloc: Global, words: &'a [String]) -> Result<ArgMatches<'
 {
     let does =
         "Prints a page of the site whose commands come on standard input (sitepub frame writes them)";
-    let example =
-        "Example:\n  sitepub frame examples/status/1 | siterender /status\n\n--version prints the program's version";
+    let example = "Example:\
+         \n  sitepub frame examples/status/1 | siterender /status\
+         \n\n--version prints the program's version";
     let command = described(alloc, "siterender", does, example)
         .arg(number_option(
             alloc,

@@ -59,7 +59,8 @@ fn format_flag<'a>(alloc: Global) -> Arg<'a>
     Arg::new(alloc, "format")
         .long("format")
         .help(
-            "Makes an empty record first, if FILE is empty or missing. Only for a new group: a number that was in use needs --above too",
+            "Makes an empty record first, if FILE is empty or missing. Only for a new group: a number that \
+             was in use needs --above too",
         )
         .action(ArgAction::SetTrue)
 }
@@ -74,7 +75,9 @@ fn above_option<'a>(alloc: Global) -> Arg<'a>
         .long("above")
         .value_name("P:REACH")
         .help(
-            "With --format: makes a record for a server whose own is lost. REACH is what '--inspect' prints as 'reaches' of server P's record. Give it for more than half of the group's servers, without this one",
+            "With --format: makes a record for a server whose own is lost. REACH is what '--inspect' prints \
+             as 'reaches' of server P's record. Give it for more than half of the group's servers, without \
+             this one",
         )
         .action(ArgAction::Append)
 }
@@ -100,7 +103,8 @@ fn address_arguments<'a>(alloc: Global) -> Arg<'a>
     Arg::new(alloc, "address")
         .value_name("ADDRESS")
         .help(
-            "Where each server receives datagrams, IP:PORT: the address of server 1, then that of server 2, and so on. This server's own is one of them",
+            "Where each server receives datagrams, IP:PORT: the address of server 1, then that of server 2, \
+             and so on. This server's own is one of them",
         )
         .action(ArgAction::Append)
 }
@@ -120,8 +124,18 @@ fn serve_matches<'a>(alloc: Global, words: &'a [String]) -> Result<ArgMatches<'a
     ensures serving { IfOk result (λ m. (t : List ℕ) → one_text (found_of m) (codes "serve-ms") ≡ Some t
         → IsUnsignedIn 0 18446744073709551615 t) }
 {
-    let example =
-        "Examples, server 1 of 3 on one machine. Once, for a new group:\n  sited --id 1 --record 1.record --format --http 127.0.0.1:8001 --rounds 0 127.0.0.1:7001 127.0.0.1:7002 127.0.0.1:7003\n\nEach later start:\n  sited --id 1 --record 1.record --http 127.0.0.1:8001 --rounds 4294967295 127.0.0.1:7001 127.0.0.1:7002 127.0.0.1:7003\n\nOnce, if server 1 is lost with its record, and '--inspect' prints 'reaches: 57' for server 2 and 'reaches: 60' for server 3:\n  sited --id 1 --record 1.record --format --above 2:57 --above 3:60 --http 127.0.0.1:8001 --rounds 0 127.0.0.1:7001 127.0.0.1:7002 127.0.0.1:7003\n\nsited --inspect FILE prints what a record holds, even while a server runs over it\nsited --version prints the program's version";
+    let example = "Examples, server 1 of 3 on one machine. Once, for a new group:\
+         \n  sited --id 1 --record 1.record --format --http 127.0.0.1:8001 --rounds 0 127.0.0.1:7001 \
+         127.0.0.1:7002 127.0.0.1:7003\
+         \n\nEach later start:\
+         \n  sited --id 1 --record 1.record --http 127.0.0.1:8001 --rounds 4294967295 127.0.0.1:7001 \
+         127.0.0.1:7002 127.0.0.1:7003\
+         \n\nOnce, if server 1 is lost with its record, and '--inspect' prints 'reaches: 57' for server 2 \
+         and 'reaches: 60' for server 3:\
+         \n  sited --id 1 --record 1.record --format --above 2:57 --above 3:60 --http 127.0.0.1:8001 \
+         --rounds 0 127.0.0.1:7001 127.0.0.1:7002 127.0.0.1:7003\
+         \n\nsited --inspect FILE prints what a record holds, even while a server runs over it\
+         \nsited --version prints the program's version";
     let args = vec![in alloc;
         id_option(alloc),
         required_option(
@@ -134,7 +148,8 @@ fn serve_matches<'a>(alloc: Global, words: &'a [String]) -> Result<ArgMatches<'a
             alloc,
             "http",
             "ADDRESS",
-            "Where this server answers HTTP requests, IP:PORT. It has 64 connections at once. It closes one on which nothing moves for 5 seconds between requests, or for 1 second within a request",
+            "Where this server answers HTTP requests, IP:PORT. It has 64 connections at once. It closes one \
+             on which nothing moves for 5 seconds between requests, or for 1 second within a request",
         ),
         rounds_option(alloc),
         format_flag(alloc),
@@ -142,12 +157,14 @@ fn serve_matches<'a>(alloc: Global, words: &'a [String]) -> Result<ArgMatches<'a
         number_option(
             alloc,
             "patience-ms",
-            "Tries again after N milliseconds without progress. The default is 100. Take three round trips between the servers, if that is more",
+            "Tries again after N milliseconds without progress. The default is 100. Take three round trips \
+             between the servers, if that is more",
         ),
         number_option(
             alloc,
             "serve-ms",
-            "Closes a connection if a request takes longer than N milliseconds, from its first byte to the last byte of its response",
+            "Closes a connection if a request takes longer than N milliseconds, from its first byte to the \
+             last byte of its response",
         ),
         verbose_flag(alloc),
         address_arguments(alloc),

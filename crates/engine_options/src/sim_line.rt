@@ -27,8 +27,14 @@ fn sim_matches<'a>(alloc: Global, words: &'a [String]) -> Result<ArgMatches<'a>,
 {
     let does =
         "Runs one to nine servers in memory by a schedule in a file, and prints what each publishes";
-    let example =
-        "Example, a file of these lines:\n  nodes 3\n  submit 1 7 1 8\n  release\n\n  tick 1\n  settle\n  show 3\n\n--version prints the program's version";
+    let example = "Example, a file of these lines:\
+         \n  nodes 3\
+         \n  submit 1 7 1 8\
+         \n  release\
+         \n\n  tick 1\
+         \n  settle\
+         \n  show 3\
+         \n\n--version prints the program's version";
     let command = described(alloc, "sitesim", does, example).arg(word_argument(
         alloc,
         "file",

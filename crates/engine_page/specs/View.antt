@@ -10,7 +10,12 @@ use Rattle.engine_page.specs.declared.engine.Outcome.{Outcome}
 use Rattle.engine_page.specs.declared.engine.Outcome.TheVariants.{Shows, Says}
 
 abbrev pub line_view : Line → Words
-line_view l = record { editor = l.editor.now; number = l.number.now; length_word = l.length_word.now; after = l.after.now }
+line_view l = record {
+  editor = l.editor.now;
+  number = l.number.now;
+  length_word = l.length_word.now;
+  after = l.after.now;
+}
 
 abbrev pub framed_view : Framed → FramedCommand
 framed_view f = record { ticket = f.ticket; text = f.text.now }

@@ -105,7 +105,12 @@ BeginEnds reader old new (Err sim.Read) = HasTaken reader × HasFailed reader
 
 -- what follows an earlier part of a run, as that run's end
 abbrev pub behind : Option (List ℕ) → ℕ → End → End
-behind before failures later = record { before = before; after = later.after; failures = failures; failures_after = later.failures_after }
+behind before failures later = record {
+  before = before;
+  after = later.after;
+  failures = failures;
+  failures_after = later.failures_after;
+}
 
 -- the line that reports a fault at line k. An allocation may fail for it
 abbrev pub IsSaid : ℕ → SimFault → List ℕ → Type 0

@@ -344,7 +344,8 @@ impl Simulation {
         feed: &mut Feed,
         reader: &mut Counted<R>,
     ) -> Result<Option<String>, SimFault>
-        ensures { NextEnds (end_of R.remaining reader.old reader.new) self.old self.new feed.old feed.new result }
+        ensures { NextEnds
+            (end_of R.remaining reader.old reader.new) self.old self.new feed.old feed.new result }
     {
         if !fill(feed, reader)? {
             return Ok(None);

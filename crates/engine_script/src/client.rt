@@ -25,7 +25,10 @@ pub(crate) fn post_request(
     let Ticket { editor, number } = ticket;
     let len = text.len();
     let head = format!(in alloc;
-        "POST /_submit/{editor}/{number} HTTP/1.1\r\nHost: localhost\r\nConnection: close\r\nContent-Length: {len}\r\n\r\n"
+        "POST /_submit/{editor}/{number} HTTP/1.1\r\n\
+         Host: localhost\r\n\
+         Connection: close\r\n\
+         Content-Length: {len}\r\n\r\n"
     )?;
     let mut request = head.into_bytes();
     request.extend_from_slice(text)?;

@@ -88,7 +88,8 @@ fn coding_status(minor: u8, bytes: &[u8], fields: &[HeaderSpan]) -> Option<u16>
 fn length_named(bytes: &[u8], fields: &[HeaderSpan]) -> Result<usize, u16>
     requires { LieIn bytes.now fields.now }
     ensures stated { let values = values_of (codes "content-length") (covered bytes.now fields.now) in
-        MatchResult result (λ n. (length_fault values ≡ None) × (n ≡ stated_length values)) (λ status. length_fault values ≡ Some status) }
+        MatchResult result (λ n. (length_fault values ≡ None) × (n ≡ stated_length values))
+        (λ status. length_fault values ≡ Some status) }
     ensures small { IfOk result (λ n. n ≤ BODY_LIMIT) }
 {
     if count_named(bytes, fields, b"content-length") > 1 {

@@ -115,7 +115,8 @@ impl Inbox {
             (input_of self.new (R.remaining (inside reader.new)))) }
         ensures grows { OnOk result (length self.old < length self.new) }
         ensures unread { IfErr result (λ fault. fault ≢ ReadFault.OutOfMemory →
-            Keeps (input_of self.old (R.remaining (inside reader.old))) (input_of self.new (R.remaining (inside reader.new)))
+            Keeps (input_of self.old (R.remaining (inside reader.old)))
+            (input_of self.new (R.remaining (inside reader.new)))
             × (self.new ≡ self.old)) }
         ensures ended { IsErrOf result ReadFault.EndedEarly → IsAtEnd (R.remaining (inside reader.new)) }
         ensures failed { IsErrOf result ReadFault.Read → RoseByOne (failed reader.old) (failed reader.new) }

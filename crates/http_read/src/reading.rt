@@ -30,7 +30,8 @@ fn has_begun<R: Read>(reader: &mut Counted<R>, inbox: &mut Inbox) -> Result<bool
         (input_of inbox.new (R.remaining (inside reader.new)))) }
     ensures begun { IfOk result (λ begun. HasBegun begun inbox.new (R.remaining (inside reader.new))) }
     ensures unread { IsErrOf result ReadFault.Read →
-        StopsAt (input_of inbox.old (R.remaining (inside reader.old))) (R.remaining (inside reader.new)) IsCutShort }
+        StopsAt (input_of inbox.old (R.remaining (inside reader.old)))
+        (R.remaining (inside reader.new)) IsCutShort }
     ensures never { ¬ (IsErrOf result ReadFault.EndedEarly) }
     ensures failed { IsErrOf result ReadFault.Read → RoseByOne (failed reader.old) (failed reader.new) }
     ensures quiet { ¬ (IsErrOf result ReadFault.Read) → failed reader.new ≡ failed reader.old }
@@ -56,7 +57,8 @@ fn read_one<R: Read>(
     ensures answer { IfOk result (λ incoming. IfSome (input_of inbox.old (R.remaining (inside reader.old)))
         (Shows incoming (input_of inbox.new (R.remaining (inside reader.new))))) }
     ensures stopped { IfErr result (λ fault. fault ≢ ReadFault.OutOfMemory →
-        StopsAt (input_of inbox.old (R.remaining (inside reader.old))) (R.remaining (inside reader.new)) IsCutShort) }
+        StopsAt (input_of inbox.old (R.remaining (inside reader.old)))
+        (R.remaining (inside reader.new)) IsCutShort) }
     ensures ended { IsErrOf result ReadFault.EndedEarly → IsAtEnd (R.remaining (inside reader.new)) }
     ensures failed { IsErrOf result ReadFault.Read → RoseByOne (failed reader.old) (failed reader.new) }
     ensures quiet { ¬ (IsErrOf result ReadFault.Read) → failed reader.new ≡ failed reader.old }

@@ -62,10 +62,14 @@ impl FixedReply {
                 "HTTP/1.1 200 OK\r\nContent-Type: text/plain; charset=utf-8\r\nContent-Length: 8"
             }
             FixedReply::Busy => {
-                "HTTP/1.1 503 Service Unavailable\r\nContent-Type: text/plain; charset=utf-8\r\nContent-Length: 5"
+                "HTTP/1.1 503 Service Unavailable\r\n\
+                 Content-Type: text/plain; charset=utf-8\r\n\
+                 Content-Length: 5"
             }
             FixedReply::Stopped => {
-                "HTTP/1.1 503 Service Unavailable\r\nContent-Type: text/plain; charset=utf-8\r\nContent-Length: 8"
+                "HTTP/1.1 503 Service Unavailable\r\n\
+                 Content-Type: text/plain; charset=utf-8\r\n\
+                 Content-Length: 8"
             }
         }
     }

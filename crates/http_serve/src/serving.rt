@@ -37,13 +37,15 @@ fn next_message<R: Read, S: Service>(
     ensures few { IfOk result (λ found. IfSome found (λ message. message.stays ≡ true → answered + 1 < 100)) }
     ensures over { IfOk result (λ found. found ≡ None → service.new ≡ service.old) }
     ensures unread { IsErrOf result ServeFault.Read →
-        StopsAt (input_of inbox.old (R.remaining (inside reader.old))) (R.remaining (inside reader.new)) IsCutShort }
+        StopsAt (input_of inbox.old (R.remaining (inside reader.old)))
+        (R.remaining (inside reader.new)) IsCutShort }
     ensures ended { IsErrOf result ServeFault.EndedEarly →
         IfSome (input_of inbox.old (R.remaining (inside reader.old))) (λ input. Answers input stops) }
     ensures unasked { (IsErrOf result ServeFault.Read ⊎ IsErrOf result ServeFault.EndedEarly)
         → service.new ≡ service.old }
     ensures refused { IsErrOf result ServeFault.OutOfMemory →
-        IfSome (input_of inbox.old (R.remaining (inside reader.old))) (λ input. MayRefuse S.offered input service.old service.new) }
+        IfSome (input_of inbox.old (R.remaining (inside reader.old))) (λ input.
+        MayRefuse S.offered input service.old service.new) }
     ensures unwritten { ¬ (IsErrOf result ServeFault.Write) }
     ensures taken { MaySubmit S.offered service.old service.new }
     ensures failed { IsErrOf result ServeFault.Read → RoseByOne (failed reader.old) (failed reader.new) }

@@ -35,7 +35,13 @@ indent_under w true own = w ++ own
 indent_under w false own = []
 
 abbrev pub tag_under : List ℕ → Marked → TokenSeen
-tag_under w m = record { kind = m.token.kind; inside = m.token.inside; place = m.token.place; text = m.token.text; indent = indent_under w m.is_alone m.token.indent }
+tag_under w m = record {
+  kind = m.token.kind;
+  inside = m.token.inside;
+  place = m.token.place;
+  text = m.token.text;
+  indent = indent_under w m.is_alone m.token.indent;
+}
 
 -- whether a tag comes next that is not standalone
 abbrev pub goes_on : List Marked → Bool

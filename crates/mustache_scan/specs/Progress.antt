@@ -48,4 +48,10 @@ indent_in t _ start place = []
 
 -- the token of a tag from place to place
 abbrev pub tag_at : List ℕ → TokenKind → List ℕ → ℕ → ℕ → TokenSeen
-tag_at t kind inside place past = record { kind = kind; inside = name_of kind inside; place = place; text = slice_range t place past; indent = indent_in t kind (taken t kind place past).0 place }
+tag_at t kind inside place past = record {
+  kind = kind;
+  inside = name_of kind inside;
+  place = place;
+  text = slice_range t place past;
+  indent = indent_in t kind (taken t kind place past).0 place;
+}

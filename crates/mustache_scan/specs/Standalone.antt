@@ -106,7 +106,13 @@ is_literal Literal = true
 is_literal _ = false
 
 abbrev pub tag_token : List ℕ → ℕ × Piece → TokenSeen
-tag_token t p = record { kind = p.1.kind; inside = p.1.inside; place = p.0; text = p.1.bytes; indent = indent_of t p p.1.kind }
+tag_token t p = record {
+  kind = p.1.kind;
+  inside = p.1.inside;
+  place = p.0;
+  text = p.1.bytes;
+  indent = indent_of t p p.1.kind;
+}
 
 abbrev pub tokens_at : List ℕ → List (ℕ × ℕ) → ℕ × Piece → List TokenSeen
 tokens_at t lines p =

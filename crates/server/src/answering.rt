@@ -28,7 +28,8 @@ pub(crate) fn answer<D: Disk, S: Drop>(
     served: &mut Served<D>,
     now: u64,
 ) -> Result<bool, AllocError>
-    ensures each { OnOk result (AnswersOrLeaves returning now seats.old.times served.old served.new seats.old.seats.items seats.new.seats.items) }
+    ensures each { OnOk result (AnswersOrLeaves returning now seats.old.times served.old served.new
+        seats.old.seats.items seats.new.seats.items) }
     ensures tells { IfOk result (λ answered. TellsAnswered answered
         (length seats.old.seats.items) seats.old.seats.items seats.new.seats.items) }
     ensures taken { (n : ℕ) × (n ≤ 6400) × MaySubmitMany offered n served.old served.new }

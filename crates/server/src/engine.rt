@@ -64,7 +64,8 @@ fn open_server<R: Files<File = File>>(
     cause: &mut Cause,
 ) -> Result<(Box<FileServer>, u32), ServerFault>
     requires { IsNode cluster me }
-    ensures opened { IfOk result (λ parts. IsOpened ⟦<FileDisk as Disk>⟧.stands_for cluster me parts.0.value.served.node) }
+    ensures opened { IfOk result (λ parts.
+        IsOpened ⟦<FileDisk as Disk>⟧.stands_for cluster me parts.0.value.served.node) }
     ensures fault { IfErr result EndsOpening }
 {
     let desk = Desk::new(alloc)?.with_room(ROOM);
@@ -125,9 +126,15 @@ fn work<R: Files<File = File> + Clock, W: Write, E: Write>(
 ) -> Result<(), ServerFault>
     ensures said { WorkEnds options.now.verbose (end_of W.contents out.old out.new)
         (end_of E.contents err.old err.new) options.now.id result }
-    ensures passes { OnOk result (Led ⟦<FileDisk as Disk>⟧.stands_for server.old.served.node server.new.served.node (TakesPasses server.old.served.node.cluster server.old.served.node.me count server.new.served.node.releases)) }
-    ensures halted { IfErr result (λ why. Led ⟦<FileDisk as Disk>⟧.stands_for server.old.served.node server.new.served.node (BreaksWork server.old.served.node.cluster server.old.served.node.me count why)
-        ⊎ LosesPasses ⟦<FileDisk as Disk>⟧.stands_for server.old.served.node server.new.served.node count why) }
+    ensures passes { OnOk result
+        (Led ⟦<FileDisk as Disk>⟧.stands_for server.old.served.node server.new.served.node
+        (TakesPasses server.old.served.node.cluster server.old.served.node.me count
+        server.new.served.node.releases)) }
+    ensures halted { IfErr result (λ why.
+        Led ⟦<FileDisk as Disk>⟧.stands_for server.old.served.node server.new.served.node
+        (BreaksWork server.old.served.node.cluster server.old.served.node.me count why)
+        ⊎ LosesPasses ⟦<FileDisk as Disk>⟧.stands_for server.old.served.node server.new.served.node
+        count why) }
 {
     say_ready(alloc, out, options.id)?;
     take_passes(rt, alloc, err, shell, server, count, options)?;
@@ -146,8 +153,14 @@ fn start<R: Files<File = File> + Clock, W: Write, E: Write>(
 ) -> Result<(), ServerFault>
     ensures said { WorkEnds options.now.verbose (end_of W.contents out.old out.new)
         (end_of E.contents err.old err.new) options.now.id result }
-    ensures laps { OnOk result (Led ⟦<FileDisk as Disk>⟧.stands_for server.old.served.node server.new.served.node (TakesPasses server.old.served.node.cluster server.old.served.node.me (passes_of options.now.id options.now.rounds) server.new.served.node.releases)) }
-    ensures halted { IfErr result (λ why. Led ⟦<FileDisk as Disk>⟧.stands_for server.old.served.node server.new.served.node (BreaksWork server.old.served.node.cluster server.old.served.node.me (passes_of options.now.id options.now.rounds) why)
+    ensures laps { OnOk result
+        (Led ⟦<FileDisk as Disk>⟧.stands_for server.old.served.node server.new.served.node
+        (TakesPasses server.old.served.node.cluster server.old.served.node.me
+        (passes_of options.now.id options.now.rounds) server.new.served.node.releases)) }
+    ensures halted { IfErr result (λ why.
+        Led ⟦<FileDisk as Disk>⟧.stands_for server.old.served.node server.new.served.node
+        (BreaksWork server.old.served.node.cluster server.old.served.node.me
+        (passes_of options.now.id options.now.rounds) why)
         ⊎ LosesPasses ⟦<FileDisk as Disk>⟧.stands_for server.old.served.node server.new.served.node
         (passes_of options.now.id options.now.rounds) why) }
 {

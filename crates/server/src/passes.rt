@@ -46,8 +46,14 @@ fn take_pass<D: Disk + Drop, C: Clock>(
     shell: &mut Shell,
     server: &mut Server<D, TcpStream>,
 ) -> Result<(), ServerFault>
-    ensures ok { OnOk result (LeadsSealed D.stands_for server.old.served.node server.new.served.node (TakesPass server.old.served.node.cluster server.old.served.node.me server.new.served.node.releases)) }
-    ensures fault { IfErr result (λ why. LeadsSealed D.stands_for server.old.served.node server.new.served.node (BreaksPass server.old.served.node.cluster server.old.served.node.me why) ⊎ LosesPass D.stands_for server.old.served.node server.new.served.node why) }
+    ensures ok { OnOk result
+        (LeadsSealed D.stands_for server.old.served.node server.new.served.node
+        (TakesPass server.old.served.node.cluster server.old.served.node.me
+        server.new.served.node.releases)) }
+    ensures fault { IfErr result (λ why.
+        LeadsSealed D.stands_for server.old.served.node server.new.served.node
+        (BreaksPass server.old.served.node.cluster server.old.served.node.me why)
+        ⊎ LosesPass D.stands_for server.old.served.node server.new.served.node why) }
     ensures ends { IfErr result EndsLaps }
     ensures whose { StaysWhose server.old.served.node server.new.served.node }
     ensures counts { CountsNone result (failures D.failed server.old.served.node)
@@ -77,7 +83,10 @@ pub(crate) fn take_passes<D: Disk + Drop, R: Files<File = File> + Clock, E: Writ
     count: u64,
     options: &ServeOptions<'_>,
 ) -> Result<(), ServerFault>
-    ensures ok { OnOk result (Led D.stands_for server.old.served.node server.new.served.node (TakesPasses server.old.served.node.cluster server.old.served.node.me count server.new.served.node.releases)) }
+    ensures ok { OnOk result
+        (Led D.stands_for server.old.served.node server.new.served.node
+        (TakesPasses server.old.served.node.cluster server.old.served.node.me count
+        server.new.served.node.releases)) }
     ensures fault { IfErr result (λ why. Led D.stands_for server.old.served.node server.new.served.node
         (BreaksPasses server.old.served.node.cluster server.old.served.node.me count why)
         ⊎ LosesPasses D.stands_for server.old.served.node server.new.served.node count why) }

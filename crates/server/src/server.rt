@@ -116,11 +116,14 @@ impl<D: Disk + Drop, S: Drop> Server<D, S> {
         ensures seats { self.new.seats ≡ self.old.seats }
         ensures returning { self.new.returning ≡ self.old.returning }
         ensures me { self.new.me ≡ self.old.me }
-        ensures fault { IfErr result (λ why. LeadsSealed D.stands_for self.old.served.node self.new.served.node (BreaksStep self.old.served.node.cluster self.old.served.node.me (waiting_of self.old.mail) why)
-            ⊎ LosesStep D.stands_for
-            (waiting_of self.old.mail) self.old.served.node self.new.served.node why) }
+        ensures fault { IfErr result (λ why.
+            LeadsSealed D.stands_for self.old.served.node self.new.served.node
+            (BreaksStep self.old.served.node.cluster self.old.served.node.me (waiting_of self.old.mail) why)
+            ⊎ LosesStep D.stands_for (waiting_of self.old.mail) self.old.served.node self.new.served.node
+            why) }
         ensures may_send { IfErr result (λ why.
-            MaySend D.stands_for (waiting_of self.old.mail) (posted_of self.new.mail) why self.old.served.node) }
+            MaySend D.stands_for (waiting_of self.old.mail) (posted_of self.new.mail) why
+            self.old.served.node) }
         ensures ends { IfErr result EndsLaps }
         ensures whose { StaysWhose self.old.served.node self.new.served.node }
         ensures counts { CountsNone result (failures D.failed self.old.served.node)
@@ -157,7 +160,8 @@ impl<D: Disk + Drop, S: Drop> Server<D, S> {
             × IsBatchOf D.stands_for last (waiting_of self.old.mail) stepped.malformed
             (posted_of self.new.mail) self.old.served.node mid.node
             × Paces self.old.served.node self.old.mail now last self.old.pace self.new.pace
-            × AnswersOrLeaves self.old.returning now self.old.seats.times mid self.new.served self.old.seats.seats.items self.new.seats.seats.items) }
+            × AnswersOrLeaves self.old.returning now self.old.seats.times mid self.new.served
+            self.old.seats.seats.items self.new.seats.seats.items) }
         ensures heard { IfOk result (λ stepped.
             AreSenders self.old.served.node.cluster (waiting_of self.old.mail) stepped.heard) }
         ensures came { IfOk result (λ stepped. IsFalse stepped.came ↔ (waiting_of self.old.mail ≡ [])) }
@@ -172,11 +176,14 @@ impl<D: Disk + Drop, S: Drop> Server<D, S> {
             × (self.new.mail.cluster ≡ self.old.mail.cluster) }
         ensures same { (self.new.me ≡ self.old.me) × (self.new.returning ≡ self.old.returning)
             × (self.new.seats.times ≡ self.old.seats.times) }
-        ensures fault { IfErr result (λ why. LeadsSealed D.stands_for self.old.served.node self.new.served.node (BreaksStep self.old.served.node.cluster self.old.served.node.me (waiting_of self.old.mail) why)
-            ⊎ LosesStep D.stands_for
-            (waiting_of self.old.mail) self.old.served.node self.new.served.node why) }
+        ensures fault { IfErr result (λ why.
+            LeadsSealed D.stands_for self.old.served.node self.new.served.node
+            (BreaksStep self.old.served.node.cluster self.old.served.node.me (waiting_of self.old.mail) why)
+            ⊎ LosesStep D.stands_for (waiting_of self.old.mail) self.old.served.node self.new.served.node
+            why) }
         ensures may_send { IfErr result (λ why.
-            MaySend D.stands_for (waiting_of self.old.mail) (posted_of self.new.mail) why self.old.served.node) }
+            MaySend D.stands_for (waiting_of self.old.mail) (posted_of self.new.mail) why
+            self.old.served.node) }
         ensures ends { IfErr result EndsLaps }
         ensures whose { StaysWhose self.old.served.node self.new.served.node }
         ensures counts { CountsNone result (failures D.failed self.old.served.node)

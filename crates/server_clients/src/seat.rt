@@ -111,7 +111,8 @@ impl<S> Seat<S> {
         times: Times,
         now: u64,
     ) -> Result<bool, AllocError>
-        ensures next { IfOk result (λ did. MayBeOneMore offered times now did served.old served.new self.old self.new) }
+        ensures next { IfOk result (λ did.
+            MayBeOneMore offered times now did served.old served.new self.old self.new) }
         ensures few { OnErr result (self.old.connection.answered < 100) }
         ensures taken { MaySubmit offered served.old served.new }
     {

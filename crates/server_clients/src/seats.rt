@@ -145,7 +145,8 @@ impl<S: Drop> Seats<S> {
         now: u64,
     ) -> Result<bool, AllocError>
         ensures same { (self.new.times ≡ self.old.times) × (self.new.alloc ≡ self.old.alloc) }
-        ensures each { OnOk result (AreAnswered offered self.old.times now served.old served.new self.old.seats.items self.new.seats.items) }
+        ensures each { OnOk result (AreAnswered offered self.old.times now served.old served.new
+            self.old.seats.items self.new.seats.items) }
         ensures tells { IfOk result (λ answered. TellsAnswered answered
             (length self.old.seats.items) self.old.seats.items self.new.seats.items) }
         ensures taken { (n : ℕ) × (n ≤ 6400) × MaySubmitMany offered n served.old served.new }

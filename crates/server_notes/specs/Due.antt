@@ -90,7 +90,10 @@ settled n now (note.Opened votes) = record n { votes = None }
 settled n now (note.Mute instance) = record n { muteness = Said instance }
 settled n now note.NoLongerMute = record n { muteness = Over }
 settled n now (note.CaughtUp instance) = record n { catching = Done }
-settled n now (note.NoMajority seconds) = record n { catching = Alone; listening = record n.listening { majority = told_at n.listening.majority now } }
+settled n now (note.NoMajority seconds) = record n {
+  catching = Alone;
+  listening = record n.listening { majority = told_at n.listening.majority now };
+}
 settled n now (note.Majority seconds) =
     record n { listening = record n.listening { majority = ended_told n.listening.majority } }
 settled n now (note.Silent p seconds) =

@@ -8,7 +8,13 @@ use Rattle.server_notes.specs.declared.listening.Listening.{Listening}
 use Rattle.server_notes.specs.declared.silence.Silence.{Silence}
 
 abbrev pub first_listening : ℕ → ℕ → Listening
-first_listening n me = record { cluster = n; me = me; silences = replicate 9 no_silence; gathered = no_nodes; majority = no_silence }
+first_listening n me = record {
+  cluster = n;
+  me = me;
+  silences = replicate 9 no_silence;
+  gathered = no_nodes;
+  majority = no_silence;
+}
 
 -- those that came, and the server itself
 abbrev pub heard_by : ℕ → List Bool → List Bool
@@ -32,7 +38,12 @@ pub record Hears (old : Listening) (now : ℕ) (heard : List Bool) (majority : B
   pub all : List Bool
   pub gathered : AreUnited (heard_by old.me heard) old.gathered all
   pub is_majority : IsTrue majority ↔ (old.cluster / 2 + 1 ≤ count_of all)
-  pub same : new ≡ record new { cluster = old.cluster; me = old.me; gathered = if majority then no_nodes else all; majority = if majority then heard_at old.majority now else old.majority }
+  pub same : new ≡ record new {
+    cluster = old.cluster;
+    me = old.me;
+    gathered = if majority then no_nodes else all;
+    majority = if majority then heard_at old.majority now else old.majority;
+  }
 
 -- node p is the first whose silence is to be reported, and this is its length
 pub record IsFirstSilent (l : Listening) (now p millis : ℕ) : Type 0 where

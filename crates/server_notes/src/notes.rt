@@ -59,7 +59,10 @@ impl Notes {
     /// Messages of these nodes came. `known` values are known, and values up to `reached` were heard of.
     pub fn hear(&mut self, now: u64, known: u32, reached: u32, heard: NodeSet)
         ensures { (majority : Bool) × Hears self.old.listening now heard majority self.new.listening
-            × (self.new ≡ record self.old { listening = self.new.listening; catching = following self.old.catching majority now known reached }) }
+            × (self.new ≡ record self.old {
+              listening = self.new.listening;
+              catching = following self.old.catching majority now known reached;
+            }) }
     {
         if self.listening.hear(now, heard) {
             self.catching = self.catching.joined(now, known, reached);

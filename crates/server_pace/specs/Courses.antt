@@ -8,7 +8,17 @@ use Rattle.server_times.specs.declared.times.Times.{Times}
 
 -- that of a node which asks for instance i, and of which nothing was heard before
 abbrev pub first_course : Times → ℕ → ℕ → Course
-first_course times now i = record { first = i; next = i; budget = times.least; repeats = 0; at = now; since = now; back = true; took = times.flight; asked = true }
+first_course times now i = record {
+  first = i;
+  next = i;
+  budget = times.least;
+  repeats = 0;
+  at = now;
+  since = now;
+  back = true;
+  took = times.flight;
+  asked = true;
+}
 
 -- how long it took to ask further on, since it was told from its last question on; else as before
 abbrev pub flight_by : Course → ℕ → ℕ

@@ -377,6 +377,9 @@ pub record HearsBatch (old : Pace) (delivered : Delivered) (new : Pace) : Type 0
   pub came : AreUnited delivered.heard old.questions.present.came new.questions.present.came
   pub answered : AreUnited delivered.answered old.answered new.answered
   pub is : new ≡ record (heard old delivered.attempts delivered.stirs) {
-    questions = record old.questions { asked = new.questions.asked; present = record old.questions.present { came = new.questions.present.came } };
+    questions = record old.questions {
+      asked = new.questions.asked;
+      present = record old.questions.present { came = new.questions.present.came };
+    };
     answered = new.answered;
   }

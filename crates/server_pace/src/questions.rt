@@ -164,7 +164,10 @@ impl Questions {
     pub(crate) fn hear(&mut self, delivered: &Delivered)
         ensures asked { AreAsked self.old.asked delivered.now.questions self.new.asked }
         ensures came { AreUnited delivered.now.heard self.old.present.came self.new.present.came }
-        ensures same { self.new ≡ record self.old { asked = self.new.asked; present = record self.old.present { came = self.new.present.came } } }
+        ensures same { self.new ≡ record self.old {
+          asked = self.new.asked;
+          present = record self.old.present { came = self.new.present.came };
+        } }
     {
         self.asked = newer_each(&self.asked, delivered.questions());
         self.present.hear(delivered.heard());

@@ -149,7 +149,10 @@ pub fn has_passed(since: Option<u64>, now: u64, millis: u64) -> bool
 impl Times {
     /// Those of a command line that may name a patience and a limit for connections.
     pub fn new(patience: Option<u64>, serve_ms: Option<u64>) -> Times
-        ensures { result ≡ record STANDARD { patience = unwrap_or patience STANDARD.patience; serve_ms = serve_ms } }
+        ensures { result ≡ record STANDARD {
+          patience = unwrap_or patience STANDARD.patience;
+          serve_ms = serve_ms;
+        } }
     {
         Times {
             patience: patience.unwrap_or(STANDARD.patience),

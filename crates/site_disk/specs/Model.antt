@@ -50,7 +50,12 @@ at_rest bytes past = record { seen = bytes; synced = bytes; written = []; past =
 
 -- the state after a write of `size` bytes, after which a read gives these bytes
 abbrev pub after_write : DiskState → ℕ → ℕ → List ℕ → DiskState
-after_write d at size seen = record { seen = seen; synced = d.synced; written = record { start = at; size = size } ∷ d.written; past = moment d ∷ d.past }
+after_write d at size seen = record {
+  seen = seen;
+  synced = d.synced;
+  written = record { start = at; size = size } ∷ d.written;
+  past = moment d ∷ d.past;
+}
 
 -- the state after a sync that succeeded
 abbrev pub after_sync : DiskState → DiskState

@@ -120,7 +120,9 @@ impl Desk {
         requires { self.old.outbox.items ≡ [] }
         ensures ok { OnOk result (LeadsTo D.stands_for L.received L.given node.old node.new link.old link.new
             (Closes last node.old.cluster node.old.me)) }
-        ensures fault { IfErr result (λ fault. LeadsTo D.stands_for L.received L.given node.old node.new link.old link.new (GivesUpLast last node.old.cluster node.old.me fault)) }
+        ensures fault { IfErr result (λ fault.
+            LeadsTo D.stands_for L.received L.given node.old node.new link.old link.new
+            (GivesUpLast last node.old.cluster node.old.me fault)) }
         ensures others { KeepsOthers node.old node.new }
         ensures tried { L.tried link.new ≡ L.tried link.old }
         ensures counted { Counted self.old.failed self.new.failed (L.failed link.old) (L.failed link.new) }

@@ -63,7 +63,10 @@ impl Delivered {
 
     /// One more message of an attempt.
     fn note_attempt(&mut self)
-        ensures { self.new ≡ record self.old { attempts = counted_if true self.old.attempts; stirs = counted_if true self.old.stirs } }
+        ensures { self.new ≡ record self.old {
+          attempts = counted_if true self.old.attempts;
+          stirs = counted_if true self.old.stirs;
+        } }
     {
         self.attempts = self.attempts.saturating_add(1);
         self.note_stir();

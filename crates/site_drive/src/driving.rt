@@ -25,8 +25,12 @@ impl Desk {
         turns: u32,
     ) -> Result<u32, NodeFault>
         requires { self.old.outbox.items ≡ [] }
-        ensures ok { IfOk result (λ malformed. LeadsTo D.stands_for L.received L.given node.old node.new link.old link.new (Exchanges node.old.cluster node.old.me turns malformed node.new.releases)) }
-        ensures fault { IfErr result (λ fault. LeadsTo D.stands_for L.received L.given node.old node.new link.old link.new (GivesUp node.old.cluster node.old.me turns fault)) }
+        ensures ok { IfOk result (λ malformed.
+            LeadsTo D.stands_for L.received L.given node.old node.new link.old link.new
+            (Exchanges node.old.cluster node.old.me turns malformed node.new.releases)) }
+        ensures fault { IfErr result (λ fault.
+            LeadsTo D.stands_for L.received L.given node.old node.new link.old link.new
+            (GivesUp node.old.cluster node.old.me turns fault)) }
         ensures empty { OnOk result (self.new.outbox.items ≡ []) }
         ensures whose { StaysWhose node.old node.new }
         ensures tried { OnOk result (RoseBy turns (L.tried link.old) (L.tried link.new)) }
@@ -57,7 +61,8 @@ impl Desk {
         turns: u32,
         last: LastCall,
     ) -> Result<Driven, NodeFault>
-        ensures { EndsDrive D.stands_for D.failed L.received L.given L.tried L.failed turns node.old node.new link.old link.new result
+        ensures { EndsDrive D.stands_for D.failed L.received L.given L.tried L.failed turns
+            node.old node.new link.old link.new result
             (λ driven. DrivesWith last node.old.cluster node.old.me turns driven.malformed node.new.releases)
             (GivesUpDrivingWith last node.old.cluster node.old.me turns) }
     {
@@ -81,7 +86,8 @@ pub fn drive<D: Disk, L: Link>(
     link: &mut L,
     turns: u32,
 ) -> Result<Driven, NodeFault>
-    ensures { EndsDrive D.stands_for D.failed L.received L.given L.tried L.failed turns node.old node.new link.old link.new result
+    ensures { EndsDrive D.stands_for D.failed L.received L.given L.tried L.failed turns
+        node.old node.new link.old link.new result
         (λ driven. Drives node.old.cluster node.old.me turns driven.malformed node.new.releases)
         (GivesUpDriving node.old.cluster node.old.me turns) }
 {

@@ -112,8 +112,12 @@ impl Desk {
     ) -> Result<u32, NodeFault>
         requires { self.old.outbox.items ≡ [] }
         ensures one { IfOk result (λ malformed. malformed ≤ 1) }
-        ensures ok { IfOk result (λ malformed. LeadsTo D.stands_for L.received L.given node.old node.new link.old link.new (Exchanges node.old.cluster node.old.me 1 malformed node.new.releases)) }
-        ensures fault { IfErr result (λ fault. LeadsTo D.stands_for L.received L.given node.old node.new link.old link.new (GivesUp node.old.cluster node.old.me 1 fault)) }
+        ensures ok { IfOk result (λ malformed.
+            LeadsTo D.stands_for L.received L.given node.old node.new link.old link.new
+            (Exchanges node.old.cluster node.old.me 1 malformed node.new.releases)) }
+        ensures fault { IfErr result (λ fault.
+            LeadsTo D.stands_for L.received L.given node.old node.new link.old link.new
+            (GivesUp node.old.cluster node.old.me 1 fault)) }
         ensures empty { OnOk result (self.new.outbox.items ≡ []) }
         ensures whose { StaysWhose node.old node.new }
         ensures tried { RoseBy 1 (L.tried link.old) (L.tried link.new) }

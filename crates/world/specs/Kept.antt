@@ -71,7 +71,8 @@ by round node = record { round = round; node = node }
 abbrev pub votes_late : (ℕ → Value) → List Event
 votes_late v =
     Submit 1 (v 1) ∷ Tick 1 ∷ Deliver 1 0 ∷ Deliver 3 0 ∷ Deliver 1 1 ∷ Deliver 1 2 ∷ decides_one (v 2) 4
-    ++ (Tell 2 1 ∷ Deliver 3 10 ∷ Keep 3 1 ∷ Deliver 3 3 ∷ Keep 3 1 ∷ Restart 3 ∷ Tell 3 1 ∷ Deliver 3 12 ∷ [])
+    ++ (Tell 2 1 ∷ Deliver 3 10 ∷ Keep 3 1 ∷ Deliver 3 3 ∷ Keep 3 1 ∷ Restart 3 ∷ Tell 3 1 ∷ Deliver 3 12
+    ∷ [])
 
 -- So a vote for another value may come after a learned one, at a ballot below the one that decided. That is
 -- no damage, and the learned value is reported

@@ -11,7 +11,8 @@ use Rattle.world.specs.Quiet.{IsQuiet, IsPlan, one_attempt, overbid_first}
 -- Nodes 2 and 3 have voted for node 1's value, and no vote was delivered. Node 2 learns that value first, and
 -- after it its own at the next instance
 abbrev pub two_votes : Value → Value → List Event
-two_votes a b = Submit 1 a ∷ Submit 2 b ∷ Tick 1 ∷ Deliver 1 0 ∷ Deliver 2 0 ∷ Deliver 1 1 ∷ Deliver 1 2 ∷ Deliver 2 3 ∷ Deliver 3 3 ∷ []
+two_votes a b = Submit 1 a ∷ Submit 2 b ∷ Tick 1 ∷ Deliver 1 0 ∷ Deliver 2 0 ∷ Deliver 1 1 ∷ Deliver 1 2
+    ∷ Deliver 2 3 ∷ Deliver 3 3 ∷ []
 
 pub record VotesAreTakenUp : Type 0 where
   pub a : Value

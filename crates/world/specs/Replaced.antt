@@ -23,19 +23,23 @@ submits_each v k (suc more) = Submit 2 (v k) ∷ submits_each v (suc k) more
 
 -- nodes 1 and 2 vote for the first value
 abbrev pub before_loss : (ℕ → Value) → List Event
-before_loss v = Submit 2 (v 1) ∷ Tick 2 ∷ Deliver 1 0 ∷ Deliver 2 0 ∷ Deliver 2 1 ∷ Deliver 2 2 ∷ Deliver 1 3 ∷ Deliver 2 3 ∷ Deliver 2 4 ∷ Deliver 2 5 ∷ []
+before_loss v = Submit 2 (v 1) ∷ Tick 2 ∷ Deliver 1 0 ∷ Deliver 2 0 ∷ Deliver 2 1 ∷ Deliver 2 2 ∷ Deliver 1 3
+    ∷ Deliver 2 3 ∷ Deliver 2 4 ∷ Deliver 2 5 ∷ []
 
 -- Node 1 is lost. No other node has voted past instance 1, so 65 is a floor. The new node learns the first
 -- value from the old votes, its own among them, and keeps the value. At instance 2 it answers nothing, and
 -- nodes 2 and 3 decide
 abbrev pub mute_below : (ℕ → Value) → List Event
 mute_below v =
-    Replace 1 65 ∷ Restart 1 ∷ Deliver 1 4 ∷ Deliver 1 5 ∷ Keep 1 1 ∷ Submit 2 (v 2) ∷ Tick 2 ∷ Deliver 1 6 ∷ Deliver 2 6 ∷ Deliver 3 6 ∷ Deliver 2 7 ∷ Deliver 2 8 ∷ Deliver 1 9 ∷ Deliver 2 9 ∷ Deliver 3 9
+    Replace 1 65 ∷ Restart 1 ∷ Deliver 1 4 ∷ Deliver 1 5 ∷ Keep 1 1 ∷ Submit 2 (v 2) ∷ Tick 2 ∷ Deliver 1 6
+    ∷ Deliver 2 6 ∷ Deliver 3 6 ∷ Deliver 2 7 ∷ Deliver 2 8 ∷ Deliver 1 9 ∷ Deliver 2 9 ∷ Deliver 3 9
     ∷ Deliver 2 10 ∷ Deliver 2 11 ∷ []
 
 -- Node 2 tries 63 values, at instances 3 to 65, and one at 66. There node 1 promises and votes
 abbrev pub heard_above : (ℕ → Value) → List Event
-heard_above v = submits_each v 3 63 ++ (Widen 2 ∷ Submit 2 (v 66) ∷ Widen 2 ∷ Deliver 1 13 ∷ Deliver 2 13 ∷ Deliver 2 14 ∷ Deliver 2 15 ∷ Deliver 1 16 ∷ Deliver 2 16 ∷ [])
+heard_above v = submits_each v 3 63
+    ++ (Widen 2 ∷ Submit 2 (v 66) ∷ Widen 2 ∷ Deliver 1 13 ∷ Deliver 2 13 ∷ Deliver 2 14 ∷ Deliver 2 15
+    ∷ Deliver 1 16 ∷ Deliver 2 16 ∷ [])
 
 -- node 1 is opened again, and receives what it reports of the value that it kept
 abbrev pub opened_anew : List Event

@@ -25,8 +25,10 @@ vote b v = record { ballot = b; value = v }
 -- proposal, and vote for that of node 2. Node 1 learns this, and begins again at instance 2, a round higher
 abbrev pub duel : Value → Value → List Event
 duel a b =
-    Submit 1 a ∷ Submit 2 b ∷ Tick 1 ∷ Tick 2 ∷ Deliver 1 0 ∷ Deliver 2 0 ∷ Deliver 2 1 ∷ Deliver 3 1 ∷ Deliver 1 2 ∷ Deliver 1 3 ∷ Deliver 1 6 ∷ Deliver 2 6 ∷ Deliver 3 6 ∷ Deliver 2 4
-    ∷ Deliver 2 5 ∷ Deliver 2 10 ∷ Deliver 3 10 ∷ Deliver 1 11 ∷ Deliver 1 12 ∷ Deliver 2 11 ∷ Deliver 2 12 ∷ Deliver 1 8 ∷ Tick 1 ∷ []
+    Submit 1 a ∷ Submit 2 b ∷ Tick 1 ∷ Tick 2 ∷ Deliver 1 0 ∷ Deliver 2 0 ∷ Deliver 2 1 ∷ Deliver 3 1
+    ∷ Deliver 1 2 ∷ Deliver 1 3 ∷ Deliver 1 6 ∷ Deliver 2 6 ∷ Deliver 3 6 ∷ Deliver 2 4
+    ∷ Deliver 2 5 ∷ Deliver 2 10 ∷ Deliver 3 10 ∷ Deliver 1 11 ∷ Deliver 1 12 ∷ Deliver 2 11 ∷ Deliver 2 12
+    ∷ Deliver 1 8 ∷ Tick 1 ∷ []
 
 abbrev pub said_in_duel : Value → Value → List Message
 said_in_duel a b =
@@ -64,7 +66,8 @@ pub record DuelIsTaken : Type 0 where
 -- and node 3 continues with it
 abbrev pub vote_in_flight : Value → ℕ → List Event
 vote_in_flight a choice =
-    Submit 1 a ∷ Tick 1 ∷ Deliver 1 0 ∷ Deliver 2 0 ∷ Deliver 1 1 ∷ Deliver 1 2 ∷ Arm 2 3 ∷ Deliver 2 3 ∷ Crash 2 choice ∷ Restart 2 ∷ Tick 3 ∷ Deliver 2 4 ∷ Deliver 3 4 ∷ Deliver 3 5
+    Submit 1 a ∷ Tick 1 ∷ Deliver 1 0 ∷ Deliver 2 0 ∷ Deliver 1 1 ∷ Deliver 1 2 ∷ Arm 2 3 ∷ Deliver 2 3
+    ∷ Crash 2 choice ∷ Restart 2 ∷ Tick 3 ∷ Deliver 2 4 ∷ Deliver 3 4 ∷ Deliver 3 5
     ∷ Deliver 3 6 ∷ []
 
 abbrev pub said_before_crash : Value → List Message
@@ -135,8 +138,10 @@ pub record GapIsWaitedFor : Type 0 where
 -- vote when the proposal comes again. Node 1 asks, and receives the value
 abbrev pub openings : Value → List Event
 openings a =
-    Submit 1 a ∷ Tick 1 ∷ Deliver 1 0 ∷ Deliver 2 0 ∷ Deliver 1 1 ∷ Deliver 1 2 ∷ Deliver 1 3 ∷ Restart 1 ∷ Tick 3 ∷ Deliver 1 5 ∷ Deliver 3 5 ∷ Deliver 3 3 ∷ Deliver 1 8 ∷ Deliver 3 6
-    ∷ Deliver 3 7 ∷ Arm 2 0 ∷ Deliver 2 9 ∷ Restart 2 ∷ Deliver 2 9 ∷ Deliver 3 9 ∷ Deliver 3 10 ∷ Deliver 3 11 ∷ Ask 1 ∷ Deliver 3 12 ∷ Deliver 1 13 ∷ []
+    Submit 1 a ∷ Tick 1 ∷ Deliver 1 0 ∷ Deliver 2 0 ∷ Deliver 1 1 ∷ Deliver 1 2 ∷ Deliver 1 3 ∷ Restart 1
+    ∷ Tick 3 ∷ Deliver 1 5 ∷ Deliver 3 5 ∷ Deliver 3 3 ∷ Deliver 1 8 ∷ Deliver 3 6
+    ∷ Deliver 3 7 ∷ Arm 2 0 ∷ Deliver 2 9 ∷ Restart 2 ∷ Deliver 2 9 ∷ Deliver 3 9 ∷ Deliver 3 10
+    ∷ Deliver 3 11 ∷ Ask 1 ∷ Deliver 3 12 ∷ Deliver 1 13 ∷ []
 
 abbrev pub said_over_openings : Value → List Message
 said_over_openings a =
@@ -183,7 +188,9 @@ promised_by_two =
 -- Node 1 tries its three values at once, and node 2 helps it with the last one. Node 3 knows that one, and
 -- nothing below it
 abbrev pub last_of_three : Value → Value → Value → List Event
-last_of_three a b c = three_begun a b c ++ (Deliver 1 1 ∷ Deliver 2 1 ∷ Deliver 1 3 ∷ Deliver 1 5 ∷ Deliver 1 6 ∷ Deliver 2 6 ∷ Deliver 3 7 ∷ Deliver 3 8 ∷ [])
+last_of_three a b c = three_begun a b c
+    ++ (Deliver 1 1 ∷ Deliver 2 1 ∷ Deliver 1 3 ∷ Deliver 1 5 ∷ Deliver 1 6 ∷ Deliver 2 6 ∷ Deliver 3 7
+    ∷ Deliver 3 8 ∷ [])
 
 pub record LastOfThreeIsKnown : Type 0 where
   pub a : Value
@@ -201,7 +208,8 @@ pub record LastOfThreeIsKnown : Type 0 where
 abbrev pub crash_of_three : Value → Value → Value → Value → Value → List Event
 crash_of_three a b c d e =
     three_begun a b c
-    ++ (Deliver 1 1 ∷ Deliver 2 1 ∷ Deliver 1 2 ∷ Deliver 1 4 ∷ Deliver 2 6 ∷ Crash 1 0 ∷ Submit 3 d ∷ Submit 3 e ∷ Tick 3 ∷ Widen 3 ∷ Deliver 2 9 ∷ Deliver 3 9 ∷ Deliver 3 10 ∷ Deliver 3 11 ∷ [])
+    ++ (Deliver 1 1 ∷ Deliver 2 1 ∷ Deliver 1 2 ∷ Deliver 1 4 ∷ Deliver 2 6 ∷ Crash 1 0 ∷ Submit 3 d
+    ∷ Submit 3 e ∷ Tick 3 ∷ Widen 3 ∷ Deliver 2 9 ∷ Deliver 3 9 ∷ Deliver 3 10 ∷ Deliver 3 11 ∷ [])
 
 pub record CrashOfThreeIsTaken : Type 0 where
   pub a : Value
@@ -231,7 +239,8 @@ pub record CrashOfThreeIsTaken : Type 0 where
 abbrev pub higher_span : Value → Value → Value → Value → Value → List Event
 higher_span a b c d e =
     three_begun a b c
-    ++ (Deliver 1 1 ∷ Deliver 2 1 ∷ Deliver 1 2 ∷ Deliver 1 4 ∷ Deliver 2 6 ∷ Deliver 1 3 ∷ Deliver 1 5 ∷ Submit 3 a ∷ Submit 3 d ∷ Submit 3 e ∷ Tick 3 ∷ Widen 3 ∷ Deliver 2 10 ∷ Deliver 2 8 ∷ [])
+    ++ (Deliver 1 1 ∷ Deliver 2 1 ∷ Deliver 1 2 ∷ Deliver 1 4 ∷ Deliver 2 6 ∷ Deliver 1 3 ∷ Deliver 1 5
+    ∷ Submit 3 a ∷ Submit 3 d ∷ Submit 3 e ∷ Tick 3 ∷ Widen 3 ∷ Deliver 2 10 ∷ Deliver 2 8 ∷ [])
 
 pub record HigherSpanIsTaken : Type 0 where
   pub a : Value

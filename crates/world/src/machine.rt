@@ -370,7 +370,8 @@ impl Machine {
     ) -> Result<(), AllocError>
         requires node { IsNode cluster (node_of event.now) }
         requires message { ¬ IsUnsent (messages_of sent.old.items) event.now }
-        ensures ok { OnOk result (EventTurns cluster event.now self.old self.new sent.old.items sent.new.items) }
+        ensures ok { OnOk result
+            (EventTurns cluster event.now self.old self.new sent.old.items sent.new.items) }
         ensures err { OnErr result (EventWants cluster
             (node_of event.now) event.now self.old self.new sent.old.items sent.new.items) }
         ensures grows { OnlyGrows sent.old.items sent.new.items }
