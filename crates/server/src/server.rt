@@ -221,7 +221,8 @@ impl<D: Disk + Drop, S: Drop> Server<D, S> {
         ensures rests { IsSome result ↔ Rests (resting_of self.old.pace
             (has_come stepped.came (waiting_of self.old.mail)) (moved || stepped.answered)) }
         ensures long { IfSome result (λ micros.
-            micros ≡ rest_after self.old.pace.times self.old.pace.empty self.old.pace.tells) }
+            micros ≡ rest_after self.old.pace.times self.old.pace.empty self.old.pace.tells
+            (length self.old.seats.seats.items)) }
         ensures counts { self.new.pace ≡ record self.old.pace {
           empty = empty_after (resting_of self.old.pace
               (has_come stepped.came (waiting_of self.old.mail)) (moved || stepped.answered));
@@ -229,6 +230,7 @@ impl<D: Disk + Drop, S: Drop> Server<D, S> {
         ensures same { self.new ≡ record self.old { pace = self.new.pace } }
     {
         let came = self.has_come(stepped);
-        self.pace.rest(came, moved || stepped.answered)
+        let clients = self.seats.len();
+        self.pace.rest(came, moved || stepped.answered, clients)
     }
 }

@@ -278,12 +278,12 @@ impl Pace {
     }
 
     /// How many microseconds are rested after a step: none while something came, and only a few while it
-    /// tells somebody something. It is told whether datagrams came or bytes of clients, and whether a
-    /// response was written.
-    pub fn rest(&mut self, came: bool, served: bool) -> Option<u64>
+    /// tells somebody something. It is told whether datagrams came or bytes of clients, whether a response was
+    /// written, and how many clients there are.
+    pub fn rest(&mut self, came: bool, served: bool, clients: usize) -> Option<u64>
         ensures rests { IsSome result ↔ (came ≡ false) × (served ≡ false) × (self.old.stirred ≡ false) }
         ensures long { IfSome result (λ micros. micros
-            ≡ rest_after self.old.times self.old.empty self.old.tells) }
+            ≡ rest_after self.old.times self.old.empty self.old.tells clients) }
         ensures counts { self.new ≡ record self.old {
           empty = empty_after
               (resting_of self.old came served);
@@ -295,7 +295,7 @@ impl Pace {
             stirred: self.stirred,
             empty: self.empty,
         };
-        let micros = self.times.rest_after(self.empty, self.tells);
+        let micros = self.times.rest_after(self.empty, self.tells, clients);
         self.empty = resting.empty_after();
         resting.is_due().then_some(micros)
     }

@@ -1,6 +1,6 @@
 -- What a server waits for, by its times. Times are milliseconds since it began, rests microseconds.
-use Rattle.std.specs.Prelude.{ℕ, ◌+◌, ◌-◌, ◌*◌, ◌/◌, ◌^◌, min, Bool, true, nat_le, nat_lt, if◌then◌else◌}
-use Rattle.std.specs.Prelude.{Option, Some, None}
+use Rattle.std.specs.Prelude.{ℕ, ◌+◌, ◌-◌, ◌*◌, ◌/◌, ◌^◌, ◌&&◌, min, Bool, true, nat_le, nat_lt}
+use Rattle.std.specs.Prelude.{if◌then◌else◌, Option, Some, None}
 use Rattle.server_times.specs.declared.times.Times.{Times}
 
 -- so many milliseconds have passed since then; since never they have
@@ -22,14 +22,14 @@ abbrev pub asks_again_after : Times → ℕ → ℕ → ℕ
 asks_again_after times again empty =
     min (min (times.again * (again + 1)) (2 ^ 64 - 1)) (asks_after times empty)
 
--- after so many steps in which nothing came, in microseconds
-abbrev pub long_rest : Times → ℕ → ℕ
-long_rest times empty =
-    if nat_lt empty times.eager then 0
+-- after so many steps in which nothing came, in microseconds; with few clients it does not rest at first
+abbrev pub long_rest : Times → ℕ → ℕ → ℕ
+long_rest times empty clients =
+    if nat_lt empty times.eager && nat_le clients times.few then 0
     else (if nat_lt empty times.idle then times.rest
     else (if nat_lt empty times.quiet then times.idle_rest else times.quiet_rest))
 
 -- the same, but shorter while the server tells somebody something
-abbrev pub rest_after : Times → ℕ → Bool → ℕ
-rest_after times empty tells =
-    if tells then min (long_rest times empty) times.telling_rest else long_rest times empty
+abbrev pub rest_after : Times → ℕ → Bool → ℕ → ℕ
+rest_after times empty tells clients =
+    if tells then min (long_rest times empty clients) times.telling_rest else long_rest times empty clients

@@ -62,6 +62,9 @@ pub struct Times {
     /// For so many steps in which nothing came, one after another, it does not rest: a client that was
     /// answered comes again at once, and so does another node's message (`Pace::rest`).
     pub eager: u32,
+    /// So it is with so many clients at most. With more it rests after each such step: meanwhile several come,
+    /// and the next step answers them together (`Pace::rest`).
+    pub few: usize,
     /// Microseconds that it rests behind a step in which nothing came, while it is busy (`Pace::rest`).
     pub rest: u64,
     /// The same where it is idle.
@@ -120,6 +123,7 @@ const STANDARD: Times = Times {
     idle: 200,
     quiet: 2000,
     eager: 16,
+    few: 4,
     rest: 10,
     idle_rest: 1500,
     quiet_rest: 20_000,
@@ -192,11 +196,11 @@ impl Times {
     }
 
     /// How many microseconds it rests after so many steps in which nothing came: the longer the more there
-    /// were.
-    fn long_rest(self, empty: u32) -> u64
-        ensures { result ≡ long_rest self empty }
+    /// were. It has so many clients.
+    fn long_rest(self, empty: u32, clients: usize) -> u64
+        ensures { result ≡ long_rest self empty clients }
     {
-        if empty < self.eager {
+        if empty < self.eager && clients <= self.few {
             0
         } else if empty < self.idle {
             self.rest
@@ -208,14 +212,14 @@ impl Times {
     }
 
     /// How many microseconds it rests after a step in which nothing came, and so many others before it. It
-    /// tells somebody something (`tells`), or it does not.
-    pub fn rest_after(self, empty: u32, tells: bool) -> u64
-        ensures is { result ≡ rest_after self empty tells }
+    /// tells somebody something (`tells`), or it does not, and has so many clients.
+    pub fn rest_after(self, empty: u32, tells: bool, clients: usize) -> u64
+        ensures is { result ≡ rest_after self empty tells clients }
         ensures longer { (fewer : ℕ) → fewer ≤ empty → self.rest ≤ self.idle_rest
-            → self.idle_rest ≤ self.quiet_rest → rest_after self fewer tells ≤ result }
+            → self.idle_rest ≤ self.quiet_rest → rest_after self fewer tells clients ≤ result }
         ensures bound { tells ≡ true → result ≤ self.telling_rest }
     {
-        let long = self.long_rest(empty);
+        let long = self.long_rest(empty, clients);
         if tells {
             long.min(self.telling_rest)
         } else {

@@ -27,6 +27,7 @@ pub(crate) const TIMES: Times = Times {
     idle: 200,
     quiet: 2000,
     eager: 16,
+    few: 4,
     rest: 10,
     idle_rest: 1500,
     quiet_rest: 20_000,
@@ -395,7 +396,9 @@ fn a_step_rests_where_nothing_came(rt: HostRuntime) {
             stirred,
             empty,
         };
-        let rest = resting.is_due().then_some(TIMES.rest_after(empty, false));
+        let rest = resting
+            .is_due()
+            .then_some(TIMES.rest_after(empty, false, 0));
         let is = (rest, resting.empty_after());
         same(&rt, (resting, is), (resting, (micros, then)));
     }
@@ -415,7 +418,31 @@ const TELLS: &[(u32, u64)] = &[
 #[test]
 fn who_tells_rests_for_a_short_time(rt: HostRuntime) {
     for &(empty, micros) in TELLS {
-        same(&rt, (empty, TIMES.rest_after(empty, true)), (empty, micros));
+        same(
+            &rt,
+            (empty, TIMES.rest_after(empty, true, 0)),
+            (empty, micros),
+        );
+    }
+}
+
+/// How many clients a server has, empty steps, and how many microseconds it rests.
+const CROWDS: &[(usize, u32, u64)] = &[
+    (4, 0, 0),
+    (4, 15, 0),
+    (4, 16, 10),
+    (5, 0, 10),
+    (5, 199, 10),
+    (5, 200, 1500),
+    (64, 15, 10),
+    (64, 2000, 20_000),
+];
+
+#[test]
+fn with_many_clients_it_rests_at_once(rt: HostRuntime) {
+    for &(clients, empty, micros) in CROWDS {
+        let rest = TIMES.rest_after(empty, false, clients);
+        same(&rt, (clients, empty, rest), (clients, empty, micros));
     }
 }
 
@@ -444,7 +471,7 @@ fn a_server_begins_quiet_and_wakes_with_a_client(rt: HostRuntime) {
         for step in 0..steps {
             same(
                 &rt,
-                (came, served, step, pace.rest(came, served)),
+                (came, served, step, pace.rest(came, served, 0)),
                 (came, served, step, micros),
             );
         }

@@ -333,11 +333,11 @@ fn who_tells_does_not_sleep(rt: HostRuntime) {
     paced.take(&rt, &(0, false, true, Call::Ask, &[SECOND_KNOWN]));
     paced.take(&rt, &(1, false, true, Call::Widen, &[]));
     for _ in 0..2_000 {
-        let _ = paced.pace.rest(false, false);
+        let _ = paced.pace.rest(false, false, 0);
     }
     for &(now, call, heard, rest) in RESTS {
         paced.take(&rt, &(now, false, true, call, heard));
-        let is = paced.pace.rest(!heard.is_empty(), false);
+        let is = paced.pace.rest(!heard.is_empty(), false, 0);
         same(&rt, (now, is), (now, rest));
     }
 }
