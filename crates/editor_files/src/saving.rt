@@ -16,13 +16,9 @@ fn ledger_path(alloc: Global, folder: &str) -> Result<String, AllocError> {
     below(alloc, folder, "published")
 }
 
-/// The ledger that a text spells, as it is written now or as the script `tools/publish` wrote it.
+/// The ledger that a text spells.
 fn ledger_in(alloc: Global, path: &str, text: &str) -> Result<Ledger, EditorFault> {
-    let read = match Ledger::read(alloc, text) {
-        Err(LedgerReadFault::Old) => Ledger::read_old(alloc, text),
-        read => read,
-    };
-    match read {
+    match Ledger::read(alloc, text) {
         Ok(ledger) => Ok(ledger),
         Err(LedgerReadFault::OutOfMemory) => Err(EditorFault::OutOfMemory),
         Err(fault) => Err(EditorFault::Stop(format!(in alloc; "{path}: {fault}")?)),

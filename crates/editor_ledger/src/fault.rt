@@ -35,10 +35,6 @@ impl<T: Drop> From<AllocFailed<T>> for LedgerFault {
 /// Why a text is no ledger.
 #[derive(Clone, Copy, Debug, Drop, PartialEq, Eq, Error)]
 pub enum LedgerReadFault {
-    /// It is what the script `tools/publish` kept; to `read_old`, with something on its way.
-    #[error("the script tools/publish was interrupted here: publish with that script once more, until it \
-        says that nothing has changed, and then with sitepub")]
-    Old,
     /// The line of that number, from 1, is the first that no ledger has. A text that was cut short lacks it.
     #[error("line {0} is not what sitepub wrote, or is missing: restore the file from a copy. Or move it \
         away (log, restore and publish --release need it), and publish with --take-over")]

@@ -3,9 +3,8 @@
 //! `ledger.rt` has the steps: a plan gives tickets that none had, a receipt takes a text off its way.
 //! `head.rt` says what a command is about, `firsts.rt` finds texts by that, `kept.rt` has those of the group.
 //! `planning.rt` says what a plan holds, `past.rt` what stood before. `spelling.rt` writes a ledger as the
-//! text of a file, and `reading.rt` reads it back; `old.rt` reads what a script kept before. `laws.rt` says
-//! what follows, for every interruption and continuation. Nothing here sends or saves: who does saves a plan
-//! before it sends any of it.
+//! text of a file, and `reading.rt` reads it back. `laws.rt` says what follows, for every interruption and
+//! continuation. Nothing here sends or saves: who does saves a plan before it sends any of it.
 #![tactic(auto)]
 
 mod fault;
@@ -15,7 +14,6 @@ mod kept;
 mod laws;
 mod ledger;
 mod message;
-mod old;
 mod past;
 mod planning;
 mod reading;

@@ -1,6 +1,5 @@
 //! A ledger, read back from the text of a file.
-ghost use Rattle.std.specs.Prelude.{◌≡◌, ◌≢◌, ◌↔◌, true, nat_eq, codes, Err, IfOk, IfErr};
-ghost use Rattle.std.specs.List.{starts_with};
+ghost use Rattle.std.specs.Prelude.{◌≡◌, IfOk};
 ghost use Rattle.editor_ledger.specs.Spelling.{spelled};
 
 use crate::fault::LedgerReadFault;
@@ -34,9 +33,7 @@ enum Entry<'a> {
 
 impl<'a> Rest<'a> {
     /// The first line, and what follows it.
-    fn line(self) -> Result<(&'a str, Rest<'a>), LedgerReadFault>
-        ensures { IfErr result (λ e. e ≢ LedgerReadFault.Old) }
-    {
+    fn line(self) -> Result<(&'a str, Rest<'a>), LedgerReadFault> {
         match self.text.split_once('\n') {
             Some((line, text)) => Ok((
                 line,
@@ -50,18 +47,14 @@ impl<'a> Rest<'a> {
     }
 
     /// The words of the first line before and behind a blank.
-    fn parted<'b>(self, words: &'b str) -> Result<(&'b str, &'b str), LedgerReadFault>
-        ensures { IfErr result (λ e. e ≢ LedgerReadFault.Old) }
-    {
+    fn parted<'b>(self, words: &'b str) -> Result<(&'b str, &'b str), LedgerReadFault> {
         words
             .split_once(' ')
             .ok_or(LedgerReadFault::Line(self.line))
     }
 
     /// The number of a line that has a word before it.
-    fn number(self, word: &str) -> Result<(u64, Rest<'a>), LedgerReadFault>
-        ensures { IfErr result (λ e. e ≢ LedgerReadFault.Old) }
-    {
+    fn number(self, word: &str) -> Result<(u64, Rest<'a>), LedgerReadFault> {
         let (line, rest) = self.line()?;
         let (first, number) = self.parted(line)?;
         if first == word {
@@ -72,16 +65,12 @@ impl<'a> Rest<'a> {
     }
 
     /// A number of the first line.
-    fn parsed(self, number: &str) -> Result<u64, LedgerReadFault>
-        ensures { IfErr result (λ e. e ≢ LedgerReadFault.Old) }
-    {
+    fn parsed(self, number: &str) -> Result<u64, LedgerReadFault> {
         number.parse().map_err(|_| LedgerReadFault::Line(self.line))
     }
 
     /// A text of so many bytes, and a newline behind it.
-    fn counted(self, length: u64) -> Result<(&'a str, Rest<'a>), LedgerReadFault>
-        ensures { IfErr result (λ e. e ≢ LedgerReadFault.Old) }
-    {
+    fn counted(self, length: u64) -> Result<(&'a str, Rest<'a>), LedgerReadFault> {
         let fault = LedgerReadFault::Line(self.line);
         let (text, after) = self.text.split_at_checked(length as usize).ok_or(fault)?;
         let after = after.strip_prefix('\n').ok_or(fault)?;
@@ -96,9 +85,7 @@ impl<'a> Rest<'a> {
     }
 
     /// The release that the numbers of the first line tell, or one up to it.
-    fn released(self, numbers: &str, exact: bool) -> Result<Released, LedgerReadFault>
-        ensures { IfErr result (λ e. e ≢ LedgerReadFault.Old) }
-    {
+    fn released(self, numbers: &str, exact: bool) -> Result<Released, LedgerReadFault> {
         let (release, numbers) = self.parted(numbers)?;
         let (time, commands) = self.parted(numbers)?;
         Ok(Released {
@@ -115,18 +102,14 @@ impl<'a> Rest<'a> {
         self,
         numbers: &str,
         rest: Rest<'a>,
-    ) -> Result<(u64, &'a str, Rest<'a>), LedgerReadFault>
-        ensures { IfErr result (λ e. e ≢ LedgerReadFault.Old) }
-    {
+    ) -> Result<(u64, &'a str, Rest<'a>), LedgerReadFault> {
         let (number, length) = self.parted(numbers)?;
         let (text, rest) = rest.counted(self.parsed(length)?)?;
         Ok((self.parsed(number)?, text, rest))
     }
 
     /// The entry that the first line begins; the rest stands behind that line.
-    fn entry(self) -> Result<(Entry<'a>, Rest<'a>), LedgerReadFault>
-        ensures { IfErr result (λ e. e ≢ LedgerReadFault.Old) }
-    {
+    fn entry(self) -> Result<(Entry<'a>, Rest<'a>), LedgerReadFault> {
         let (line, rest) = self.line()?;
         match self.parted(line)? {
             ("released", numbers) => Ok((Entry::Released(self.released(numbers, true)?), rest)),
@@ -153,9 +136,7 @@ impl<'a> Rest<'a> {
 }
 
 impl Ledger {
-    fn enter(&mut self, alloc: Global, entry: Entry<'_>) -> Result<(), LedgerReadFault>
-        ensures { IfErr result (λ e. e ≢ LedgerReadFault.Old) }
-    {
+    fn enter(&mut self, alloc: Global, entry: Entry<'_>) -> Result<(), LedgerReadFault> {
         match entry {
             Entry::Released(released) => self.log.push(released)?,
             Entry::Message(release, text) => {
@@ -176,9 +157,7 @@ impl Ledger {
     }
 
     /// Enters all entries of what is left of a text, up to the last line. An entry takes a byte or more.
-    fn enter_all(&mut self, alloc: Global, behind: Rest<'_>) -> Result<(), LedgerReadFault>
-        ensures { IfErr result (λ e. e ≢ LedgerReadFault.Old) }
-    {
+    fn enter_all(&mut self, alloc: Global, behind: Rest<'_>) -> Result<(), LedgerReadFault> {
         let mut rest = behind;
         for _ in 0..behind.text.len() {
             if rest.text.starts_with(LAST) {
@@ -201,9 +180,7 @@ struct Front {
 }
 
 /// The front lines of a text, and what stands behind them.
-fn front_of(text: &str) -> Result<(Front, Rest<'_>), LedgerReadFault>
-    ensures { IfErr result (λ e. e ≢ LedgerReadFault.Old) }
-{
+fn front_of(text: &str) -> Result<(Front, Rest<'_>), LedgerReadFault> {
     let (version, rest) = Rest { text, line: 1 }.number("published")?;
     let (editor, rest) = rest.number("editor")?;
     let (next, rest) = rest.number("next")?;
@@ -223,9 +200,7 @@ fn front_of(text: &str) -> Result<(Front, Rest<'_>), LedgerReadFault>
 }
 
 /// The ledger that a text looks like.
-fn parsed(alloc: Global, text: &str) -> Result<Ledger, LedgerReadFault>
-    ensures { IfErr result (λ e. e ≢ LedgerReadFault.Old) }
-{
+fn parsed(alloc: Global, text: &str) -> Result<Ledger, LedgerReadFault> {
     let (front, rest) = front_of(text)?;
     let mut ledger = Ledger::new(alloc, front.editor);
     ledger.next = front.next;
@@ -235,9 +210,7 @@ fn parsed(alloc: Global, text: &str) -> Result<Ledger, LedgerReadFault>
 }
 
 /// How a text differs from the one that spells what it says: in the line of that number, or by its sum.
-fn difference(text: &str, spelled: &str) -> LedgerReadFault
-    ensures { result ≢ LedgerReadFault.Old }
-{
+fn difference(text: &str, spelled: &str) -> LedgerReadFault {
     let body = spelled.rsplit_once(LAST).map_or("", |(body, _)| body);
     if text.starts_with(body) {
         return LedgerReadFault::Sum;
@@ -256,7 +229,6 @@ impl Ledger {
     /// That text spells the ledger, or differs from what does: in a line, or by its sum alone.
     fn is_spelled(&self, alloc: Global, text: &str) -> Result<(), LedgerReadFault>
         ensures ok { IfOk result (λ done. spelled self.now ≡ text.now) }
-        ensures err { IfErr result (λ e. e ≢ LedgerReadFault.Old) }
     {
         let again = self.spelled(alloc)?;
         if again.as_str() == text {
@@ -271,12 +243,7 @@ impl Ledger {
     /// otherwise.
     pub fn read(alloc: Global, text: &str) -> Result<Ledger, LedgerReadFault>
         ensures ok { IfOk result (λ ledger. spelled ledger ≡ text.now) }
-        ensures old { result ≡ Err LedgerReadFault.Old
-            ↔ starts_with nat_eq text.now (codes "editor ") ≡ true }
     {
-        if text.starts_with("editor ") {
-            return Err(LedgerReadFault::Old);
-        }
         let ledger = parsed(alloc, text)?;
         ledger.is_spelled(alloc, text)?;
         Ok(ledger)

@@ -15,7 +15,6 @@ mod interruptions;
 mod ledger_files;
 mod ledgers;
 mod limits;
-mod old_files;
 mod pasts;
 mod places;
 mod plans;

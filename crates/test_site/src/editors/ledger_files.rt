@@ -72,7 +72,7 @@ const FILES: &[(&str, Option<LedgerReadFault>)] = &[
     ),
     (
         "editor 7\nnext 3\nhas 0123 put data a\n",
-        Some(LedgerReadFault::Old),
+        Some(LedgerReadFault::Line(1)),
     ),
     (
         "published 2\neditor 7\nnext 1\nlast_release 0",
