@@ -21,6 +21,7 @@ use Rattle.world.specs.declared.event.Event.TheVariants.{Submit, Tick, Ask, Deli
 use Rattle.world.specs.Decided.{Decides, Publishes}
 use Rattle.world.specs.Worked.{at, duel, DuelIsTaken, VoteIsKept, VoteIsLost, gap, gap_closes, GapIsWaitedFor, OpeningsAreTaken, last_of_three, LastOfThreeIsKnown, crash_of_three, CrashOfThreeIsTaken, higher_span, HigherSpanIsTaken}
 use Rattle.world.specs.Agreement.{SomeSchedulePublishes}
+use Rattle.world.proofs.Taken.{taken_is_a_schedule}
 use Rattle.world.proofs.Told.{IsSo, the_told, majority}
 use Rattle.world.proofs.Tables.{NodeBy, opened_by, world_by, started}
 use Rattle.world.proofs.DoingVotes.{on_prepare}
@@ -89,6 +90,7 @@ some_schedule_publishes = record {
   releases = refl;
   submitted = (1, inl refl);
   crashes = (2, 1, in_get (events_of to_publish) 8 (Crash 2 1) refl);
+  runs = taken_is_a_schedule 3 _ _ _ ran_to_publish.1;
   takes = ran_to_publish.1;
   decides = decided_by 3 ran_to_publish.0.sent (at 1 1) (a_release 1) 4 5 1 2 refl refl tt;
   publishes = record { begins = knows_release; some = omega arith; has = omega (arith, one_of_one) };
