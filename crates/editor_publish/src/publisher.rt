@@ -169,7 +169,7 @@ impl<R: Files + Net<Stream = TcpStream> + Clock + AllocGlobal, E: Write> Publish
     }
 
     /// Sends what is on its way, commands or a release: the release, if it was one.
-    fn send_planned(&mut self, fresh: bool) -> Result<Option<Made>, EditorFault> {
+    fn send_or_release(&mut self, fresh: bool) -> Result<Option<Made>, EditorFault> {
         match release_ticket(self.ledger) {
             Some(ticket) => Ok(Some(self.release(ticket, fresh)?)),
             None => {
@@ -219,7 +219,7 @@ impl<R: Files + Net<Stream = TcpStream> + Clock + AllocGlobal, E: Write> Publish
         fresh: bool,
     ) -> Result<Option<Made>, EditorFault> {
         let plan = self.plan()?;
-        let made = self.send_planned(fresh)?;
+        let made = self.send_or_release(fresh)?;
         if made.is_none() {
             self.ask_again(asked, &plan)?;
         }
@@ -237,7 +237,7 @@ impl<R: Files + Net<Stream = TcpStream> + Clock + AllocGlobal, E: Write> Publish
     /// Brings a folder of these texts into the group, some of them again, beside those that stay though the
     /// folder has them no more, and releases it: the release that was made last, or nothing where nothing has
     /// changed.
-    fn bring(
+    fn make_release(
         &mut self,
         asked: &mut Asked,
         wanted: &[&str],
@@ -315,7 +315,7 @@ impl<R: Files + Net<Stream = TcpStream> + Clock + AllocGlobal, E: Write> Publish
     }
 
     /// Publishes texts whose ledger the group confirmed, and tells the release that was made, if one was.
-    fn publish_texts<W: Write>(
+    fn send_and_show<W: Write>(
         &mut self,
         out: &mut W,
         wanted: &[&str],
@@ -332,7 +332,7 @@ impl<R: Files + Net<Stream = TcpStream> + Clock + AllocGlobal, E: Write> Publish
         } = taken;
         asked.taken = paths;
         let views = self.expected(wanted, &left)?;
-        match self.bring(&mut asked, wanted, &stays, &again)? {
+        match self.make_release(&mut asked, wanted, &stays, &again)? {
             Some(made) => self.tell_release(out, made, &views),
             None => {
                 self.say_of_found(found)?;
@@ -379,7 +379,7 @@ impl<R: Files + Net<Stream = TcpStream> + Clock + AllocGlobal, E: Write> Publish
     }
 
     /// Publishes texts, once the group has confirmed their ledger.
-    pub(crate) fn publish<W: Write>(
+    pub(crate) fn run<W: Write>(
         &mut self,
         out: &mut W,
         wanted: &[&str],
@@ -388,7 +388,7 @@ impl<R: Files + Net<Stream = TcpStream> + Clock + AllocGlobal, E: Write> Publish
         confirm(self.rt, self.err, folder, self.group, self.ledger, patience)?;
         let found = self.note_unlogged(out)?;
         let taken = self.ask_to_take_over(wanted)?;
-        self.publish_texts(out, wanted, taken, found)
+        self.send_and_show(out, wanted, taken, found)
     }
 
     /// Tells what a publication of these texts would take over: that is the answer, if the node that is

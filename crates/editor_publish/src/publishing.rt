@@ -55,7 +55,7 @@ fn ledger_of<R: Files + RandomSource + AllocGlobal>(
 }
 
 /// Publishes texts into the group of some addresses, or tells what would be.
-fn publish_wanted<
+fn run_or_tell<
     'a,
     R: Files + Net<Stream = TcpStream> + Clock + RandomSource + AllocGlobal,
     W: Write,
@@ -84,7 +84,7 @@ fn publish_wanted<
         let found = publisher.tell_plan(out, wanted)?;
         return Ok(Ending::of_dry_run(found, how.exit_code));
     }
-    Ok(Ending::of(publisher.publish(out, wanted)?))
+    Ok(Ending::of(publisher.run(out, wanted)?))
 }
 
 /// Tells that a folder has no page.
@@ -98,7 +98,7 @@ fn tell_no_page<E: Write>(alloc: Global, err: &mut E, folder: &str) -> Result<()
 }
 
 /// Publishes a folder without a fault.
-fn publish_clean<
+fn publish_site<
     R: Files + Net<Stream = TcpStream> + Clock + RandomSource + AllocGlobal,
     W: Write,
     E: Write,
@@ -119,7 +119,7 @@ fn publish_clean<
     }
     let wanted = texts_of(rt.alloc(), &clean.folder)?;
     let ledger = ledger_of(rt, how.folder, how.editor)?;
-    publish_wanted(rt, out, err, outcome, group, how, ledger, &wanted)
+    run_or_tell(rt, out, err, outcome, group, how, ledger, &wanted)
 }
 
 /// Keeps what is wrong with a folder that was read.
@@ -130,7 +130,7 @@ fn keep_findings(alloc: Global, outcome: &mut Outcome, read: &Read) -> Result<()
 }
 
 /// Reads a folder, and publishes it where it has no fault.
-fn publish_folder<
+fn check_then_publish<
     R: Files + Net<Stream = TcpStream> + Clock + RandomSource + AllocGlobal + Clone + Drop,
     W: Write,
     E: Write,
@@ -147,7 +147,7 @@ fn publish_folder<
     let read = read_folder(rt, how.folder, how.ignore)?;
     keep_findings(rt.alloc(), outcome, &read)?;
     match clean_of(rt.alloc(), err, how.folder, read)? {
-        Some(clean) => publish_clean(rt, out, err, outcome, group, how, &clean),
+        Some(clean) => publish_site(rt, out, err, outcome, group, how, &clean),
         None => Ok(Ending::Bad),
     }
 }
@@ -168,7 +168,7 @@ fn ledger_there<R: Files + RandomSource + AllocGlobal>(
 }
 
 /// Publishes a release of a folder's history once more. The folder's files stay as they are.
-fn publish_release<
+fn publish_again<
     R: Files + Net<Stream = TcpStream> + Clock + RandomSource + AllocGlobal + Clone + Drop,
     W: Write,
     E: Write,
@@ -187,28 +187,7 @@ fn publish_release<
     let texts = release_texts(rt.alloc(), how.folder, &ledger, release)?;
     let wanted = lent(rt.alloc(), &texts)?;
     tell_disk(rt, err, outcome, how, release, &wanted)?;
-    publish_wanted(rt, out, err, outcome, group, how, ledger, &wanted)
-}
-
-/// Publishes what is to become the next release.
-fn publish_next<
-    R: Files + Net<Stream = TcpStream> + Clock + RandomSource + AllocGlobal + Clone + Drop,
-    W: Write,
-    E: Write,
->(
-    rt: &R,
-    out: &mut W,
-    err: &mut E,
-    outcome: &mut Outcome,
-    group: &mut Group,
-    how: &PublishWord<'_>,
-) -> Result<Ending, EditorFault>
-    ensures { IfOk result (MayEnd how.now.dry_run how.now.exit_code) }
-{
-    match how.release {
-        Some(release) => publish_release(rt, out, err, outcome, group, how, release),
-        None => publish_folder(rt, out, err, outcome, group, how),
-    }
+    run_or_tell(rt, out, err, outcome, group, how, ledger, &wanted)
 }
 
 /// The folder, held while it is published; a dry run holds nothing.
@@ -252,7 +231,10 @@ pub fn publish<
     }
     let mut group = Group::of(rt.alloc(), urls)?;
     let held = held(rt, how)?;
-    let ending = publish_next(rt, out, err, outcome, &mut group, how)?;
+    let ending = match how.release {
+        Some(release) => publish_again(rt, out, err, outcome, &mut group, how, release)?,
+        None => check_then_publish(rt, out, err, outcome, &mut group, how)?,
+    };
     drop(held);
     Ok(ending.status())
 }
