@@ -1,6 +1,7 @@
 -- What one argument of a command line is, by clap's definition of its rules.
-use Rattle.std.specs.Prelude.{true, Some}
-use Rattle.clap.specs.Words.{Rule, Text, new_rule}
+use Rattle.std.specs.Prelude.{◌≡◌, true, false, Some}
+use Rattle.clap.specs.Words.{Rule, Text, new_rule, rule_of, IsPlainArg}
+use Rattle.clap.specs.declared.builder.arg.Arg.{Arg}
 use Rattle.clap.specs.declared.builder.value_parser.ValueParser.TheVariants.{Unsigned}
 use Rattle.clap.specs.declared.builder.action.ArgAction.TheVariants.{Set}
 
@@ -27,3 +28,10 @@ number_rule name =
 -- a word by itself, which has to be there
 abbrev pub word_rule : Text → Rule
 word_rule name = record (new_rule name) { value_names = 1; required = true; action = Some Set }
+
+-- an argument with this rule and this name, of its own command alone
+pub record IsArgument (rule_is : Rule) (name : Text) (arg : Arg) : Type 0 where
+  pub rule : rule_of arg ≡ rule_is
+  pub id : arg.id.now ≡ name
+  pub plain : IsPlainArg arg
+  pub local : arg.global ≡ false

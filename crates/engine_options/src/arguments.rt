@@ -1,9 +1,9 @@
 //! Arguments of command lines.
-ghost use Rattle.std.specs.Prelude.{◌≡◌, Some, false};
+ghost use Rattle.std.specs.Prelude.{◌≡◌, Some};
 ghost use Rattle.clap.specs.Built.{TakesValue};
-ghost use Rattle.clap.specs.Words.{rule_of, IsPlainArg};
 ghost use Rattle.clap.specs.declared.builder.value_parser.ValueParser.TheVariants.{Unsigned};
-ghost use Rattle.engine_options.specs.Arguments.{number_rule, option_rule, required_rule, word_rule};
+ghost use Rattle.engine_options.specs.Arguments.{IsArgument, number_rule, option_rule, required_rule};
+ghost use Rattle.engine_options.specs.Arguments.{word_rule};
 
 use clap::{Arg, ArgAction};
 use std::alloc::Global;
@@ -15,10 +15,7 @@ pub(crate) fn required_option<'a>(
     value: &'a str,
     help: &'a str,
 ) -> Arg<'a>
-    ensures rule { rule_of result ≡ required_rule name.entry.now }
-    ensures id { result.id.now ≡ name.entry.now }
-    ensures plain { IsPlainArg result }
-    ensures local { result.global ≡ false }
+    ensures is { IsArgument (required_rule name.entry.now) name.entry.now result }
     ensures takes { TakesValue result }
 {
     Arg::new(alloc, name)
@@ -31,10 +28,7 @@ pub(crate) fn required_option<'a>(
 
 /// `--NAME VALUE`, which may be there.
 fn value_option<'a>(alloc: Global, name: &'a str, value: &'a str, help: &'a str) -> Arg<'a>
-    ensures rule { rule_of result ≡ option_rule name.entry.now }
-    ensures id { result.id.now ≡ name.entry.now }
-    ensures plain { IsPlainArg result }
-    ensures local { result.global ≡ false }
+    ensures { IsArgument (option_rule name.entry.now) name.entry.now result }
 {
     Arg::new(alloc, name)
         .long(name)
@@ -45,10 +39,7 @@ fn value_option<'a>(alloc: Global, name: &'a str, value: &'a str, help: &'a str)
 
 /// `--NAME N`, which may be there, N a number below 2^64.
 pub(crate) fn number_option<'a>(alloc: Global, name: &'a str, help: &'a str) -> Arg<'a>
-    ensures rule { rule_of result ≡ number_rule name.entry.now }
-    ensures id { result.id.now ≡ name.entry.now }
-    ensures plain { IsPlainArg result }
-    ensures local { result.global ≡ false }
+    ensures is { IsArgument (number_rule name.entry.now) name.entry.now result }
     ensures parser { result.value_parser ≡ Some (Unsigned 0 18446744073709551615) }
 {
     value_option(alloc, name, "N", help).value_parser(clap::value_parser!(u64))
@@ -61,10 +52,7 @@ pub(crate) fn word_argument<'a>(
     value: &'a str,
     help: &'a str,
 ) -> Arg<'a>
-    ensures rule { rule_of result ≡ word_rule name.entry.now }
-    ensures id { result.id.now ≡ name.entry.now }
-    ensures plain { IsPlainArg result }
-    ensures local { result.global ≡ false }
+    ensures is { IsArgument (word_rule name.entry.now) name.entry.now result }
     ensures takes { TakesValue result }
 {
     Arg::new(alloc, name)

@@ -1,9 +1,10 @@
 //! The command line of `sited`.
-ghost use Rattle.std.specs.Prelude.{◌≡◌, ◌^◌, ℕ, List, Some, IfOk, IfErr, true, false, is_some, pos, codes};
+ghost use Rattle.std.specs.Prelude.{◌≡◌, ◌^◌, ℕ, List, Some, IfOk, IfErr, true, is_some, pos, codes};
 ghost use Rattle.clap.specs.Built.{TakesValue};
-ghost use Rattle.clap.specs.Words.{found_of, first_value, one_text, rows_of, rule_of, matches_of, takes};
-ghost use Rattle.clap.specs.Words.{kind_of, FailsBy, fault_of, IsUnsignedIn, IsPlainArg};
+ghost use Rattle.clap.specs.Words.{found_of, first_value, one_text, rows_of, matches_of, takes};
+ghost use Rattle.clap.specs.Words.{kind_of, FailsBy, fault_of, IsUnsignedIn};
 ghost use Rattle.clap.specs.declared.builder.value_parser.ValueParser.TheVariants.{Signed};
+ghost use Rattle.engine_options.specs.Arguments.{IsArgument};
 ghost use Rattle.engine_options.specs.Options.{words_of};
 ghost use Rattle.engine_options.specs.ServeOptions.{serve_app, id_rule, rounds_rule, format_rule, above_rule};
 ghost use Rattle.engine_options.specs.ServeOptions.{verbose_rule, address_rule, SpellsBelow, GivesServe};
@@ -17,10 +18,7 @@ use server_faults::ServeOptions;
 use std::alloc::Global;
 
 fn id_option<'a>(alloc: Global) -> Arg<'a>
-    ensures rule { rule_of result ≡ id_rule }
-    ensures id { result.id.now ≡ codes "id" }
-    ensures plain { IsPlainArg result }
-    ensures local { result.global ≡ false }
+    ensures is { IsArgument id_rule (codes "id") result }
     ensures takes { TakesValue result }
     ensures parser { result.value_parser ≡ Some (Signed (pos 0) (pos 255)) }
 {
@@ -34,10 +32,7 @@ fn id_option<'a>(alloc: Global) -> Arg<'a>
 }
 
 fn rounds_option<'a>(alloc: Global) -> Arg<'a>
-    ensures rule { rule_of result ≡ rounds_rule }
-    ensures id { result.id.now ≡ codes "rounds" }
-    ensures plain { IsPlainArg result }
-    ensures local { result.global ≡ false }
+    ensures is { IsArgument rounds_rule (codes "rounds") result }
     ensures takes { TakesValue result }
     ensures parser { result.value_parser ≡ Some (Signed (pos 0) (pos 4294967295)) }
 {
@@ -51,10 +46,7 @@ fn rounds_option<'a>(alloc: Global) -> Arg<'a>
 }
 
 fn format_flag<'a>(alloc: Global) -> Arg<'a>
-    ensures rule { rule_of result ≡ format_rule }
-    ensures id { result.id.now ≡ codes "format" }
-    ensures plain { IsPlainArg result }
-    ensures local { result.global ≡ false }
+    ensures { IsArgument format_rule (codes "format") result }
 {
     Arg::new(alloc, "format")
         .long("format")
@@ -66,10 +58,7 @@ fn format_flag<'a>(alloc: Global) -> Arg<'a>
 }
 
 fn above_option<'a>(alloc: Global) -> Arg<'a>
-    ensures rule { rule_of result ≡ above_rule }
-    ensures id { result.id.now ≡ codes "above" }
-    ensures plain { IsPlainArg result }
-    ensures local { result.global ≡ false }
+    ensures { IsArgument above_rule (codes "above") result }
 {
     Arg::new(alloc, "above")
         .long("above")
@@ -83,10 +72,7 @@ fn above_option<'a>(alloc: Global) -> Arg<'a>
 }
 
 fn verbose_flag<'a>(alloc: Global) -> Arg<'a>
-    ensures rule { rule_of result ≡ verbose_rule }
-    ensures id { result.id.now ≡ codes "verbose" }
-    ensures plain { IsPlainArg result }
-    ensures local { result.global ≡ false }
+    ensures { IsArgument verbose_rule (codes "verbose") result }
 {
     Arg::new(alloc, "verbose")
         .long("verbose")
@@ -95,10 +81,7 @@ fn verbose_flag<'a>(alloc: Global) -> Arg<'a>
 }
 
 fn address_arguments<'a>(alloc: Global) -> Arg<'a>
-    ensures rule { rule_of result ≡ address_rule }
-    ensures id { result.id.now ≡ codes "address" }
-    ensures plain { IsPlainArg result }
-    ensures local { result.global ≡ false }
+    ensures { IsArgument address_rule (codes "address") result }
 {
     Arg::new(alloc, "address")
         .value_name("ADDRESS")

@@ -1,5 +1,5 @@
 //! A batch of calls: judged by what is in memory, and whichever call of its seal fails, all of it is found
-//! when the node is opened again, or none of it.
+//! when the node is opened again, or none of it. This is no schedule, since each line of one is synced alone.
 use crate::failures::FAILURES;
 use crate::heard::Heard;
 use crate::peer::Call;

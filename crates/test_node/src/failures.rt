@@ -1,4 +1,4 @@
-//! Where a device fails within the four calls of a put or of a seal.
+//! Where a device fails within the four calls of a seal.
 
 /// After how many calls the device fails, a choice of the crash, whether what was put is found.
 type Failure = (u32, Option<u8>, bool);

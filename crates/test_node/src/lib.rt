@@ -1,7 +1,7 @@
-//! Nodes over disks in memory: worked rows of one node, devices that fail at each call of a put and of a
-//! seal, and each growth refused. `driven` has nodes that are driven over links, `worlds` runs of whole
-//! groups. What lines of `sitesim` show is a file of examples/schedules: here stands what none shows or does,
-//! as a message that no node of a group would send, a fault's kind, a device's calls, a growth refused.
+//! Nodes over disks in memory: worked rows of one node, devices that fail at each call of a seal, and each
+//! growth refused. `driven` has nodes that are driven over links, `worlds` runs of whole groups. What lines
+//! of `sitesim` show is a file of examples/schedules or a case of examples/cases/sitesim. Here is what none
+//! shows or does: a message that no node of a group would send, a fault's kind, a batch, a growth refused.
 #![tactic(auto)]
 
 #[cfg(test)]
@@ -9,13 +9,13 @@ mod batches;
 #[cfg(test)]
 mod comparing;
 #[cfg(test)]
-mod devices;
-#[cfg(test)]
 mod driven;
 #[cfg(test)]
 mod failures;
 #[cfg(test)]
 mod heard;
+#[cfg(test)]
+mod last_instance;
 #[cfg(test)]
 mod mute;
 #[cfg(test)]
@@ -31,12 +31,6 @@ mod said;
 #[cfg(test)]
 mod samples;
 #[cfg(test)]
-mod spans;
-#[cfg(test)]
 mod steps;
-#[cfg(test)]
-mod told_again;
-#[cfg(test)]
-mod widening;
 #[cfg(test)]
 mod worlds;

@@ -1,4 +1,5 @@
-//! A node whose record has a floor is mute up to it.
+//! A node whose record has a floor is mute up to it. This is no schedule, since there a floor is 64 or more,
+//! and no line shows how far a record reaches. (`examples/schedules/replaced` and the cases `floors` are.)
 use crate::heard::Heard;
 use crate::peer::{Call, Peer};
 use crate::said::Said;
@@ -36,24 +37,6 @@ const REQUESTS: &[Step] = &[
 #[test]
 fn a_mute_node_answers_no_request_up_to_its_floor(rt: HostRuntime) {
     play_above(&rt, rt.alloc(), 65, REQUESTS);
-}
-
-/// A question takes no round and calls no device, so that may fail.
-const ASKS: &[Step] = &[
-    Step::Queues(1, 2),
-    Step::Arm(0),
-    Step::Calls(Call::Tick),
-    Step::Widens(Ok(false)),
-    Step::Says(0, &[Said::Ask(1)]),
-    Step::Hears(Heard::Chosen(2, 1, NOTHING)),
-    Step::Hears(Heard::Chosen(2, 3, NOTHING)),
-    Step::Calls(Call::Tick),
-    Step::Says(0, &[Said::Ask(2)]),
-];
-
-#[test]
-fn a_node_that_only_learns_asks_in_the_place_of_trying(rt: HostRuntime) {
-    play_above(&rt, rt.alloc(), 2, ASKS);
 }
 
 /// It tells what it learned, counts votes, and takes part once it knows all up to its floor, where it stays

@@ -49,11 +49,11 @@ fn ended<T: Copy>(called: Result<T, NodeFault>) -> Result<(), NodeFault> {
 }
 
 impl Peer {
-    /// Node 1 of so many, over a record that was just made.
-    pub(crate) fn fresh(rt: &impl Abort, alloc: Global, size: u8) -> Peer {
+    /// Node 1 of three, over a record that was just made.
+    pub(crate) fn fresh(rt: &impl Abort, alloc: Global) -> Peer {
         Peer {
             alloc,
-            node: fresh(rt, alloc, size),
+            node: fresh(rt, alloc, 3),
             out: Vec::new(alloc),
         }
     }

@@ -1,6 +1,6 @@
 //! Each call with one growth refused: it answers as ever, or that memory was refused, and then the next try
 //! answers as ever. Where the disk in memory found none its call failed, so the node is opened again; an
-//! opening is tried twice.
+//! opening is tried twice. No line of `sitesim` refuses memory.
 //!
 //! All is tried twice, since a second program, `tools/gate/refuse-growths`, runs each test once for each
 //! growth of its memory and refuses that one: the first try meets it, the second does not. Alone a test is
@@ -91,7 +91,7 @@ fn stepped(rt: &impl Abort, node: Peer, step: Step) -> Peer {
 
 /// Node 1 of three after the steps.
 fn after(rt: &impl Abort, alloc: Global, steps: &[Step]) -> Peer {
-    let mut node = Peer::fresh(rt, alloc, 3);
+    let mut node = Peer::fresh(rt, alloc);
     for &step in steps {
         node = stepped(rt, node, step);
     }

@@ -1,46 +1,22 @@
-//! Worked rows of one node.
+//! Worked rows of one node. They are no schedules, since no line of `sitesim` shows a receipt, the kind of a
+//! fault, why a submission is refused or whether a tick is wanted, and no node of a group sends a second
+//! value of an instance, or uses up its rounds.
 use crate::heard::Heard;
 use crate::peer::Call;
-use crate::said::Said;
-use crate::samples::{NOTHING, RELEASE, Text};
+use crate::samples::{NOTHING, Text};
 use crate::steps::{Step, play};
 use node::{NodeFault, Submitted};
+use site_ids::MAX_ROUND;
 
-const MAJORITY: &[Step] = &[
-    Step::Hears(Heard::Vote(2, RELEASE)),
-    Step::Knows(0),
-    Step::Hears(Heard::Vote(2, RELEASE)),
-    Step::Knows(0),
-    Step::Hears(Heard::Vote(2, RELEASE)),
-    Step::Knows(0),
-    Step::Hears(Heard::Vote(3, RELEASE)),
-    Step::Knows(0),
-    Step::Hears(Heard::Vote(4, RELEASE)),
-    Step::Knows(1),
-    Step::Publishes(1),
-    Step::Submits(RELEASE, Ok(Submitted::Already)),
-    Step::Many(0),
-];
-
-#[test]
-fn votes_of_a_majority_make_a_value_known(rt: HostRuntime) {
-    play(&rt, rt.alloc(), 5, MAJORITY);
-}
-
+/// A second command under a ticket keeps the first one's receipt. A second value at an instance is refused.
 const CHOSEN: &[Step] = &[
     Step::Hears(Heard::Chosen(2, 1, Text::Command(1, "put data d\n{}"))),
-    Step::Knows(1),
-    Step::Publishes(0),
-    Step::Hears(Heard::Chosen(2, 3, Text::Command(3, "release\n"))),
-    Step::Knows(1),
-    Step::Publishes(0),
-    Step::Hears(Heard::Chosen(2, 2, Text::Command(2, "put data e\n{}"))),
-    Step::Knows(3),
+    Step::Hears(Heard::Chosen(2, 2, Text::Command(2, "release\n"))),
     Step::Publishes(1),
-    Step::Hears(Heard::Chosen(2, 4, Text::Command(1, "remove data d\n"))),
-    Step::Knows(4),
-    Step::Publishes(1),
-    Step::NoPage,
+    Step::Receipt(1, 1),
+    Step::Hears(Heard::Chosen(2, 3, Text::Command(1, "remove data d\n"))),
+    Step::Hears(Heard::Chosen(2, 4, Text::Command(3, "release\n"))),
+    Step::Publishes(2),
     Step::Receipt(1, 1),
     Step::Fails(
         Call::Hear(Heard::Chosen(2, 1, NOTHING)),
@@ -50,8 +26,8 @@ const CHOSEN: &[Step] = &[
 ];
 
 #[test]
-fn chosen_values_are_published_up_to_a_gap(rt: HostRuntime) {
-    play(&rt, rt.alloc(), 3, CHOSEN);
+fn the_first_of_two_values_is_kept(rt: HostRuntime) {
+    play(&rt, rt.alloc(), CHOSEN);
 }
 
 const SIXTY_FOUR: &[Step] = &[
@@ -65,45 +41,70 @@ const SIXTY_FOUR: &[Step] = &[
 
 #[test]
 fn a_queue_takes_64(rt: HostRuntime) {
-    play(&rt, rt.alloc(), 3, SIXTY_FOUR);
+    play(&rt, rt.alloc(), SIXTY_FOUR);
 }
 
-/// Node 3 promised round 5 of node 2. Of two promises in the next round the one that tells the later vote
-/// decides what is proposed.
-const ABOVE_A_ROUND: &[Step] = &[
-    Step::Calls(Call::Tick),
-    Step::Last(0, Said::Prepare(1, 1, 1)),
+/// A refusal is no reason for a tick, and a promise is one.
+const REACHED: &[Step] = &[
     Step::Hears(Heard::Nack(3, 5)),
     Step::Wants(false),
-    Step::Calls(Call::Tick),
-    Step::Last(0, Said::Prepare(1, 6, 1)),
     Step::Hears(Heard::Promise(2, 6, 4)),
-    Step::Hears(Heard::Promise(2, 6, 4)),
-    Step::Many(2),
-    Step::Hears(Heard::Promise(3, 6, 5)),
-    Step::Last(0, Said::Propose("v")),
     Step::Wants(true),
 ];
 
 #[test]
-fn a_tick_begins_above_a_round_heard_of(rt: HostRuntime) {
-    play(&rt, rt.alloc(), 3, ABOVE_A_ROUND);
+fn a_tick_is_wanted_after_a_promise(rt: HostRuntime) {
+    play(&rt, rt.alloc(), REACHED);
 }
 
-/// The no-op is chosen at instances of which the third isn't known.
-const QUESTIONS: &[Step] = &[
-    Step::Hears(Heard::Chosen(2, 1, NOTHING)),
-    Step::Hears(Heard::Chosen(2, 2, NOTHING)),
-    Step::Hears(Heard::Chosen(2, 4, NOTHING)),
-    Step::Calls(Call::Ask),
-    Step::Last(0, Said::Ask(3)),
-    Step::Hears(Heard::Ask(3, 3)),
-    Step::Many(1),
-    Step::Hears(Heard::Ask(3, 4)),
-    Step::Many(2),
+/// Without a value to try the answer is false, also where no round is left.
+const NO_ROUND: &[Step] = &[
+    Step::Hears(Heard::Nack(2, MAX_ROUND)),
+    Step::Widens(Ok(false)),
+    Step::Queues(1, 1),
+    Step::Widens(Err(NodeFault::RoundsUsedUp)),
+    Step::Says(0, &[]),
 ];
 
 #[test]
-fn the_first_unknown_instance_is_asked_for(rt: HostRuntime) {
-    play(&rt, rt.alloc(), 3, QUESTIONS);
+fn a_widening_needs_a_round(rt: HostRuntime) {
+    play(&rt, rt.alloc(), NO_ROUND);
+}
+
+/// The same at a node whose device is about to fail.
+const NO_DISK: &[Step] = &[
+    Step::Arm(0),
+    Step::Widens(Ok(false)),
+    Step::Queues(1, 1),
+    Step::Widens(Err(NodeFault::Device)),
+    Step::Widens(Err(NodeFault::Stopped)),
+    Step::Says(0, &[]),
+];
+
+#[test]
+fn a_widening_needs_a_disk(rt: HostRuntime) {
+    play(&rt, rt.alloc(), NO_DISK);
+}
+
+/// Calls that put an entry on record.
+const PUTS: &[Call] = &[
+    Call::Tick,
+    Call::Hear(Heard::Prepare(3, 1, 3, 1)),
+    Call::Hear(Heard::Propose(3, 1, 1, NOTHING)),
+];
+
+/// Where each call of a put fails, and what is found after a crash: the cases `lost-..` of `sitesim`.
+#[test]
+fn a_device_that_fails_stops_the_node(rt: HostRuntime) {
+    for &put in PUTS {
+        let steps = [
+            Step::Arm(0),
+            Step::Fails(put, NodeFault::Device),
+            Step::Stopped,
+            Step::Fails(put, NodeFault::Stopped),
+            Step::Fails(Call::Tell(0, 1), NodeFault::Stopped),
+            Step::Many(0),
+        ];
+        play(&rt, rt.alloc(), &steps);
+    }
 }

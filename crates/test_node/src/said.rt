@@ -33,8 +33,6 @@ pub(crate) enum Said {
     Nack(u32, u32),
     /// A question about an instance.
     Ask(u32),
-    /// The value of an instance.
-    Chosen(u32, &'static str),
 }
 
 /// An instance, a round and a count, 0 where the message has none, or none that is looked at.
@@ -95,7 +93,6 @@ fn parts_of(said: Said) -> (Kind, Numbers, &'static str) {
         Said::Vote(at, round, text) => (Kind::Accepted, (at, round, 0), text),
         Said::Nack(at, round) => (Kind::Nack, (at, round, 0), ""),
         Said::Ask(at) => (Kind::Ask, (at, 0, 0), ""),
-        Said::Chosen(at, text) => (Kind::Chosen, (at, 0, 0), text),
     }
 }
 

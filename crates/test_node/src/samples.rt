@@ -1,7 +1,7 @@
 //! What the rows are made of. A growth that was refused is tried once more.
 use command::write;
 use site_ids::{Ballot, Cluster, Instance, NodeId, Ticket, Value};
-use std::alloc::{AllocError, Global};
+use std::alloc::Global;
 use std::process::Abort;
 
 /// The bytes of a value, as tables have them.
@@ -11,8 +11,6 @@ pub(crate) enum Text {
     Raw(&'static str),
     /// Those of a command of editor 1, by the number of its ticket.
     Command(u64, &'static str),
-    /// So many.
-    Long(usize),
 }
 
 /// The no-op.
@@ -50,12 +48,6 @@ fn copied(rt: &impl Abort, alloc: Global, bytes: &[u8]) -> Value {
     }
 }
 
-fn long(alloc: Global, size: usize) -> Result<Value, AllocError> {
-    let mut bytes = Vec::new(alloc);
-    bytes.resize(size, b'x')?;
-    Value::from_bytes(bytes)
-}
-
 pub(crate) fn value(rt: &impl Abort, alloc: Global, text: Text) -> Value {
     match text {
         Text::Raw(text) => copied(rt, alloc, text.as_bytes()),
@@ -63,6 +55,5 @@ pub(crate) fn value(rt: &impl Abort, alloc: Global, text: Text) -> Value {
             let bytes = written(rt, alloc, number, text);
             copied(rt, alloc, bytes.as_slice())
         }
-        Text::Long(size) => long(alloc, size).expect(rt, "a value"),
     }
 }

@@ -1,7 +1,6 @@
 //! Steps of a node, as tables have them.
-use crate::comparing::{ensure, same};
+use crate::comparing::same;
 use crate::heard::Heard;
-use crate::nodes::shows;
 use crate::peer::{Call, Peer, ends, passes};
 use crate::said::{Said, ensure_last, is_all_said};
 use crate::samples::{Text, instance, ticket};
@@ -41,8 +40,6 @@ pub(crate) enum Step {
     Knows(u32),
     /// The number of a ticket, and the instance of its receipt.
     Receipt(u64, u32),
-    /// The newest release has no page at `/`.
-    NoPage,
     /// Whether it wants a tick.
     Wants(bool),
     /// Its floor, and how far its record reaches.
@@ -74,7 +71,6 @@ fn look(rt: &impl Abort, node: &Peer, step: Step) {
             let receipt = node.node.receipt(ticket(number));
             same(rt, receipt, Some(instance(rt, at)));
         }
-        Step::NoPage => ensure(rt, shows(&node.node, "/", 404, "not found\n"), "/"),
         Step::Wants(wants) => same(rt, node.node.wants_tick(), wants),
         Step::Reaches(floor, reach) => same(
             rt,
@@ -123,9 +119,9 @@ pub(crate) fn act_all(rt: &impl Abort, node: &mut Peer, steps: &[Step]) {
     }
 }
 
-/// Steps of a fresh node of so many.
-pub(crate) fn play(rt: &impl Abort, alloc: Global, size: u8, steps: &[Step]) {
-    act_all(rt, &mut Peer::fresh(rt, alloc, size), steps);
+/// Steps of a fresh node of three.
+pub(crate) fn play(rt: &impl Abort, alloc: Global, steps: &[Step]) {
+    act_all(rt, &mut Peer::fresh(rt, alloc), steps);
 }
 
 /// A fresh node of three behind these steps, and opened again behind a crash by that choice, or without one.
@@ -135,7 +131,7 @@ pub(crate) fn reopened(
     before: &[&[Step]],
     crash: Option<u8>,
 ) -> Peer {
-    let mut node = Peer::fresh(rt, alloc, 3);
+    let mut node = Peer::fresh(rt, alloc);
     for steps in before {
         act_all(rt, &mut node, steps);
     }

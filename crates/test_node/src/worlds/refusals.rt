@@ -1,6 +1,6 @@
 //! Runs with one growth refused: a run goes on from the count that it gave, and every answer is that of the
 //! schedule without refusals. A disk in memory that finds none stops its node, which is opened again; then
-//! the schedule comes once more.
+//! the schedule comes once more. No line of `sitesim` refuses memory.
 //!
 //! All is tried twice, since a second program, `tools/gate/refuse-growths`, runs each test once for each
 //! growth of its memory and refuses that one: the first try meets it, the second does not. Alone a test is

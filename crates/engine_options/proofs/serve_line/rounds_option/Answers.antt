@@ -1,11 +1,9 @@
-use Rattle.std.proofs.Common.{ap, ap₂, sym, subst, ◌≡◌, ◌∙◌, Some, Option}
+use Rattle.std.proofs.Common.{ap, sym, subst, ◌≡◌, ◌∙◌, Some}
 use Rattle.std.specs.Prelude.{pos}
-use Rattle.clap.specs.Words.{Rule, IsPlainArg}
 use Rattle.clap.specs.Built.{TakesValue}
-use Rattle.clap.specs.declared.builder.arg.Arg.{Arg}
 use Rattle.clap.specs.declared.builder.value_parser.ValueParser.{ValueParser}
 use Rattle.clap.specs.declared.builder.value_parser.ValueParser.TheVariants.{Signed}
-use Rattle.clap.specs.Words.{rule_of}
+use Rattle.engine_options.proofs.Parsing.{parsed}
 use Rattle.engine_options.proofs.serve_line.rounds_option.Goals as goal
 
 pub returns : goal.returns
@@ -15,11 +13,4 @@ returns c =
     let others = c.value_parser-2.ensures.others in
     let parser_is : c.value_parser-2.result.value_parser ≡ Some (Signed (pos 0) (pos 4294967295)) =
     given.1 ∙ ap (λ (q : ValueParser). Some q) (given.2 ∙ c.value_parser.ensures) in
-    record {
-      rule = ap rule_of others ∙ ap₂ (λ (r : Rule) (p : Option ValueParser). record r { parser = p }) option.rule parser_is;
-      id = ap (λ (a : Arg). a.id.now) others ∙ option.id;
-      plain = subst IsPlainArg (sym others) option.plain;
-      local = ap (λ (a : Arg). a.global) others ∙ option.local;
-      takes = subst TakesValue (sym others) option.takes;
-      parser = parser_is;
-    }
+    record { is = parsed _ _ _ _ _ option.is others parser_is; takes = subst TakesValue (sym others) option.takes; parser = parser_is }

@@ -27,14 +27,14 @@ added c = subst (λ (xs : List Arg). AddsInTurn AddsArg c.described.result xs c.
 
 made : (c : goal.After-try_get_matches_from) → IsChain c.described.result c.in_ok-command.command (args c) ids
 made c =
-    let id = c.id_option.ensures in
-    let file = c.required_option.ensures in
-    let http = c.required_option-2.ensures in
-    let rounds = c.rounds_option.ensures in
+    let id = c.id_option.ensures.is in
+    let file = c.required_option.ensures.is in
+    let http = c.required_option-2.ensures.is in
+    let rounds = c.rounds_option.ensures.is in
     let format = c.format_flag.ensures in
     let above = c.above_option.ensures in
-    let patience = c.number_option.ensures in
-    let serving = c.number_option-2.ensures in
+    let patience = c.number_option.ensures.is in
+    let serving = c.number_option-2.ensures.is in
     let verbose = c.verbose_flag.ensures in
     let address = c.address_arguments.ensures in
     record {
@@ -86,21 +86,21 @@ app_is c =
     let address = verbose.2 in
     ap app_of (sym address.2) ∙ adds _ _ _ _ _ address.1 c.address_arguments.ensures.local
     (adds _ _ _ _ _ verbose.1 c.verbose_flag.ensures.local
-    (adds _ _ _ _ _ serving.1 c.number_option-2.ensures.local
-    (adds _ _ _ _ _ patience.1 c.number_option.ensures.local
+    (adds _ _ _ _ _ serving.1 c.number_option-2.ensures.is.local
+    (adds _ _ _ _ _ patience.1 c.number_option.ensures.is.local
     (adds _ _ _ _ _ above.1 c.above_option.ensures.local
     (adds _ _ _ _ _ format.1 c.format_flag.ensures.local
-    (adds _ _ _ _ _ rounds.1 c.rounds_option.ensures.local
-    (adds _ _ _ _ _ http.1 c.required_option-2.ensures.local
-    (adds _ _ _ _ _ file.1 c.required_option.ensures.local
-    (adds _ _ _ _ _ id.1 c.id_option.ensures.local c.described.ensures.app c.id_option.ensures.rule)
-    c.required_option.ensures.rule)
-    c.required_option-2.ensures.rule)
-    c.rounds_option.ensures.rule)
+    (adds _ _ _ _ _ rounds.1 c.rounds_option.ensures.is.local
+    (adds _ _ _ _ _ http.1 c.required_option-2.ensures.is.local
+    (adds _ _ _ _ _ file.1 c.required_option.ensures.is.local
+    (adds _ _ _ _ _ id.1 c.id_option.ensures.is.local c.described.ensures.app c.id_option.ensures.is.rule)
+    c.required_option.ensures.is.rule)
+    c.required_option-2.ensures.is.rule)
+    c.rounds_option.ensures.is.rule)
     c.format_flag.ensures.rule)
     c.above_option.ensures.rule)
-    c.number_option.ensures.rule)
-    c.number_option-2.ensures.rule)
+    c.number_option.ensures.is.rule)
+    c.number_option-2.ensures.is.rule)
     c.verbose_flag.ensures.rule)
     c.address_arguments.ensures.rule
 
@@ -111,16 +111,16 @@ returns c =
       rows = rows_by _ serve_app _ parse.result (app_is c) (simple_by serve_app free) parse.ensures.matches;
       taken = taken_by _ serve_app _ parse.result (app_is c) parse.ensures.passes;
       refused = refused_by _ serve_app _ parse.result (app_is c) free parse.ensures.kinds;
-      id = IfOk-weaker parse.result _ _ (λ m h. subst (λ (w : List ℕ). SpellsBelow (2 ^ 8) (one_text (found_of m) w)) c.id_option.ensures.id
+      id = IfOk-weaker parse.result _ _ (λ m h. subst (λ (w : List ℕ). SpellsBelow (2 ^ 8) (one_text (found_of m) w)) c.id_option.ensures.is.id
           (chain_number _ _ (args c) ids 0 c.id_option.result 255 (2 ^ 8) m (made c) (omega arith) c.id_option.ensures.takes c.id_option.ensures.parser (omega arith) h)) parse.ensures.parsed;
-      file = IfOk-weaker parse.result _ _ (λ m h. subst (λ (w : List ℕ). is_some (first_value (found_of m) w) ≡ true) c.required_option.ensures.id
+      file = IfOk-weaker parse.result _ _ (λ m h. subst (λ (w : List ℕ). is_some (first_value (found_of m) w) ≡ true) c.required_option.ensures.is.id
           (chain_given _ _ (args c) ids 1 c.id_option.result m (made c) (omega arith) c.required_option.ensures.takes h)) parse.ensures.parsed;
-      http = IfOk-weaker parse.result _ _ (λ m h. subst (λ (w : List ℕ). is_some (first_value (found_of m) w) ≡ true) c.required_option-2.ensures.id
+      http = IfOk-weaker parse.result _ _ (λ m h. subst (λ (w : List ℕ). is_some (first_value (found_of m) w) ≡ true) c.required_option-2.ensures.is.id
           (chain_given _ _ (args c) ids 2 c.id_option.result m (made c) (omega arith) c.required_option-2.ensures.takes h)) parse.ensures.parsed;
-      rounds = IfOk-weaker parse.result _ _ (λ m h. subst (λ (w : List ℕ). SpellsBelow (2 ^ 32) (one_text (found_of m) w)) c.rounds_option.ensures.id
+      rounds = IfOk-weaker parse.result _ _ (λ m h. subst (λ (w : List ℕ). SpellsBelow (2 ^ 32) (one_text (found_of m) w)) c.rounds_option.ensures.is.id
           (chain_number _ _ (args c) ids 3 c.id_option.result 4294967295 (2 ^ 32) m (made c) (omega arith) c.rounds_option.ensures.takes c.rounds_option.ensures.parser (omega arith) h)) parse.ensures.parsed;
       patience = IfOk-weaker parse.result _ _ (λ m h t found. chain_accepted _ _ (args c) ids 6 c.id_option.result _ m t (made c) (omega arith) c.number_option.ensures.parser refl h
-          (subst (λ (w : List ℕ). one_text (found_of m) w ≡ Some t) (sym c.number_option.ensures.id) found)) parse.ensures.parsed;
+          (subst (λ (w : List ℕ). one_text (found_of m) w ≡ Some t) (sym c.number_option.ensures.is.id) found)) parse.ensures.parsed;
       serving = IfOk-weaker parse.result _ _ (λ m h t found. chain_accepted _ _ (args c) ids 7 c.id_option.result _ m t (made c) (omega arith) c.number_option-2.ensures.parser refl h
-          (subst (λ (w : List ℕ). one_text (found_of m) w ≡ Some t) (sym c.number_option-2.ensures.id) found)) parse.ensures.parsed;
+          (subst (λ (w : List ℕ). one_text (found_of m) w ≡ Some t) (sym c.number_option-2.ensures.is.id) found)) parse.ensures.parsed;
     }

@@ -16,7 +16,7 @@ ids = codes "file" ∷ []
 
 made : (c : goal.After-try_get_matches_from) → IsChain c.described.result c.in_ok-command.command (c.word_argument.result ∷ []) ids
 made c =
-    let file = c.word_argument.ensures in
+    let file = c.word_argument.ensures.is in
     record {
       bare = record { args = c.described.ensures.empty.0; groups = c.described.ensures.empty.1; globals = c.described.ensures.local; negates = c.described.ensures.negates };
       added = (c.in_ok-command.command, c.in_ok-command.ensures, refl);
@@ -26,7 +26,7 @@ made c =
     }
 
 app_is : (c : goal.After-try_get_matches_from) → app_of c.in_ok-command.command ≡ sim_app
-app_is c = adds _ _ _ _ _ c.in_ok-command.ensures c.word_argument.ensures.local c.described.ensures.app c.word_argument.ensures.rule
+app_is c = adds _ _ _ _ _ c.in_ok-command.ensures c.word_argument.ensures.is.local c.described.ensures.app c.word_argument.ensures.is.rule
 
 pub returns : goal.returns
 returns c =
@@ -35,6 +35,6 @@ returns c =
       rows = rows_by _ sim_app _ parse.result (app_is c) (simple_by sim_app free) parse.ensures.matches;
       taken = taken_by _ sim_app _ parse.result (app_is c) parse.ensures.passes;
       refused = refused_by _ sim_app _ parse.result (app_is c) free parse.ensures.kinds;
-      file = IfOk-weaker parse.result _ _ (λ m h. subst (λ (w : List ℕ). is_some (first_value (found_of m) w) ≡ true) c.word_argument.ensures.id
+      file = IfOk-weaker parse.result _ _ (λ m h. subst (λ (w : List ℕ). is_some (first_value (found_of m) w) ≡ true) c.word_argument.ensures.is.id
           (chain_given _ _ (c.word_argument.result ∷ []) ids 0 c.word_argument.result m (made c) (omega arith) c.word_argument.ensures.takes h)) parse.ensures.parsed;
     }
