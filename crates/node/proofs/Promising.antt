@@ -21,7 +21,7 @@ use Rattle.node.specs.Nodes.{Value, Node}
 use Rattle.node.specs.Waiting.{AreWaiting}
 use Rattle.node.specs.declared.queue.Queue.{Queue}
 use Rattle.node.specs.Calls.{deliver}
-use Rattle.node.specs.Deliveries.{promise_out}
+use Rattle.node.specs.Deliveries.{promise_out, reached_by}
 use Rattle.node.specs.Endings.{Whole}
 use Rattle.node.specs.Standing.{IsEvent, KeepsOthers}
 use Rattle.node.proofs.Stepping.{Handed, whole, touched, same_store, same_record, stays_there}
@@ -52,7 +52,7 @@ module _ (old new : Proposer) (n q i : ℕ) (b : BallotOf) (prior : Option Vote)
 
 module _ {D : Type 0} (stands_for : D → DiskState → Type 0) where
   pub promise_whole : (old new : Running D) (q i : ℕ) (b : BallotOf) (prior : Option Vote) (proposed : Option Value) (before after out : Handed) → KeepsOthers old new → old.store.stopped ≡ false
-      → IsMessage old.cluster (Promise q i b prior) → new.store ≡ old.store → new.learner ≡ old.learner → new.known ≡ old.known → new.queue ≡ old.queue → new.proposer.heard ≡ old.proposer.heard → new.reached ≡ max old.reached i
+      → IsMessage old.cluster (Promise q i b prior) → new.store ≡ old.store → new.learner ≡ old.learner → new.known ≡ old.known → new.queue ≡ old.queue → new.proposer.heard ≡ old.proposer.heard → new.reached ≡ reached_by old.reached (Promise q i b prior)
       → StepsTo old.proposer new.proposer old.cluster q i b prior proposed → after ≡ before ++ out → ((attempts : ℕ → Option Attempt) → Attempting old.proposer attempts → promise_out old.me i b proposed ≡ out)
       → IsEvent stands_for old new (deliver (Promise q i b prior)) Whole before after
   promise_whole old new q i b prior proposed before after out others runs in_range store learner known queue heard reached steps told same =
@@ -60,7 +60,7 @@ module _ {D : Type 0} (stands_for : D → DiskState → Type 0) where
       whole stands_for old new (deliver (Promise q i b prior)) before after out others runs in_range told (λ s stands.
       let parts = stands.parts in
       let how = steps.step s.attempts parts.attempts in
-      let t : Node = record (touched i s) { attempts = how.0 } in
+      let t : Node = record (touched (Promise q i b prior) s) { attempts = how.0 } in
       record {
         effect = record { entry = None; after = t; out = promise_out old.me i b proposed };
         does = record { attempts = how.0; proposed = proposed; step = how.1; is = refl };
@@ -72,7 +72,7 @@ module _ {D : Type 0} (stands_for : D → DiskState → Type 0) where
           attempts = how.2;
           pending = subst (λ (q : Queue). AreWaiting q.items.items s.pending) (sym queue) parts.pending;
           heard = heard ∙ parts.heard;
-          reached = reached ∙ ap (λ r. max r i) parts.reached;
+          reached = reached ∙ ap (λ r. reached_by r (Promise q i b prior)) parts.reached;
         };
         stays = stays_there stands_for old new s t others seems refl refl;
       })

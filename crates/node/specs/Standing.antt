@@ -21,7 +21,8 @@ use Rattle.node.specs.declared.to.To.{To}
 use Rattle.node.specs.declared.node.Node.{Node as Running}
 use Rattle.node.specs.Ahead.{StaysAhead}
 use Rattle.node.specs.Nodes.{Mode, Up, Stopped, Node, opened, BeginsKnown}
-use Rattle.node.specs.Calls.{Call}
+use Rattle.node.specs.Calls.{Call, deliver}
+use Rattle.node.specs.Deliveries.{reached_by}
 use Rattle.node.specs.Endings.{Ending, Whole, Refused, Failed, Ends}
 use Rattle.node.specs.Knowing.{AreKnown}
 use Rattle.node.specs.Ranges.{HasRanges}
@@ -124,6 +125,17 @@ pub record Leads {D : Type 0} (stands_for : D → DiskState → Type 0) (old new
 pub record IsEvent {D : Type 0} (stands_for : D → DiskState → Type 0) (old new : Running D) (call : Call)
     (ending : Ending) (before after : List (To × Message)) : Type 0 where
   pub leads : (s : Node) → IsNodeOf old s → Leads stands_for old new call ending before after s
+
+-- once a message was handled, it counts towards wanting a tick, unless it ended by a fault
+abbrev pub counted : {D : Type 0} → Running D → Message → Result (Unit {0}) NodeFault → Running D → Running D
+counted old m (Ok x) new = record new { reached = reached_by old.reached m }
+counted old m (Err cause) new = new
+
+-- a message of the cluster was handled but not counted: with the count, this is its delivery
+abbrev pub IsHandled : {D : Type 0} → (D → DiskState → Type 0) → Running D → Running D → Message
+    → Result (Unit {0}) NodeFault → List (To × Message) → List (To × Message) → Type 0
+IsHandled stands_for old new m result before after = IsMessage old.cluster m
+    → IsEvent stands_for old (counted old m result new) (deliver m) (ending_of result) before after
 
 -- it is the same node of the same cluster, and what it published is the same
 pub record KeepsOthers {D : Type 0} (old new : Running D) : Type 0 where

@@ -33,12 +33,12 @@ returns-clause-event g c in_range =
     })
 
 pub returns-in_err-reserve-clause-event : goal.returns-in_err-reserve-clause-event
-returns-in_err-reserve-clause-event g c in_range =
-    delivery_wants g.D.Disk.stands_for c.args.self.now _ (Ask c.args.from c.args.instance) c.from_residual.result _ _ (record { me = refl; cluster = refl; releases = refl }) c.requires.running in_range (λ s stands. (c.in-Some.value.now, sym (stands.parts.known.values c.args.instance) ∙ sym c.in-Some.ensures)) c.reserve.ensures.items c.from_residual.ensures.1 refl (record { learner = refl; known = refl; queue = refl; attempts = λ a are. are; heard = refl }) refl
+returns-in_err-reserve-clause-event g c =
+    delivery_wants g.D.Disk.stands_for c.args.self.now (Ask c.args.from c.args.instance) c.from_residual.result _ _ c.requires.running (λ s stands. (c.in-Some.value.now, sym (stands.parts.known.values c.args.instance) ∙ sym c.in-Some.ensures)) c.reserve.ensures.items c.from_residual.ensures.1
 
 pub returns-in_err-value-clause-event : goal.returns-in_err-value-clause-event
-returns-in_err-value-clause-event g c in_range =
-    delivery_wants g.D.Disk.stands_for c.args.self.now _ (Ask c.args.from c.args.instance) c.from_residual-in_err-value.result _ _ (record { me = refl; cluster = refl; releases = refl }) c.requires.running in_range (λ s stands. (c.in-Some.value.now, sym (stands.parts.known.values c.args.instance) ∙ sym c.in-Some.ensures)) c.reserve.ensures.items c.from_residual-in_err-value.ensures.1 refl (record { learner = refl; known = refl; queue = refl; attempts = λ a are. are; heard = refl }) refl
+returns-in_err-value-clause-event g c =
+    delivery_wants g.D.Disk.stands_for c.args.self.now (Ask c.args.from c.args.instance) c.from_residual-in_err-value.result _ _ c.requires.running (λ s stands. (c.in-Some.value.now, sym (stands.parts.known.values c.args.instance) ∙ sym c.in-Some.ensures)) c.reserve.ensures.items c.from_residual-in_err-value.ensures.1
 
 pub returns-clause-grows : goal.returns-clause-grows
 returns-clause-grows g c = one_more _ _ _ _ c.reserve.ensures.items c.push_reserved.ensures.items

@@ -28,8 +28,7 @@ returns-in-Ok-Some-clause-event g c in_range =
     (c.in-Ok-Some.ensures.step attempts are) in
     let x = c.in-Ok-Some.proposal in
     let out : Handed = (All, Propose old.me x.instance x.ballot x.value) ∷ [] in
-    promise_whole g.D.Disk.stands_for old _ q i b prior (Some x.value) _ _ out (record { me = refl; cluster = refl; releases = refl }) c.requires.running in_range refl refl refl refl c.on_promise.ensures.same.2
-    (c.max-reached.ensures ∙ ap (max old.reached) c.number.ensures.is)
+    promise_whole g.D.Disk.stands_for old _ q i b prior (Some x.value) _ _ out (record { me = refl; cluster = refl; releases = refl }) c.requires.running in_range refl refl refl refl c.on_promise.ensures.same.2 refl
     (proposes_some old.proposer new old.cluster q i b prior answer taken x c.in-Ok-Some.field-0-is)
     (c.push_reserved.ensures.items ∙ ap (λ (l : Handed). l ++ out) c.reserve.ensures.items)
     (proposal_out old.proposer new old.cluster q i b prior answer taken old.me x c.in-Ok-Some.field-0-is)
@@ -46,8 +45,7 @@ returns-in-Ok-None-clause-event g c in_range =
     let taken : (attempts : ℕ → Option Attempt) → Attempting old.proposer attempts → Promised old.cluster attempts q i b prior (Ok answer) new = λ attempts are.
     subst (λ (n : ℕ). Promised n attempts q i b prior (Ok answer) new) old.proposer_cluster
     (c.in-Ok-None.ensures.step attempts are) in
-    promise_whole g.D.Disk.stands_for old _ q i b prior None _ _ [] (record { me = refl; cluster = refl; releases = refl }) c.requires.running in_range refl refl refl refl c.on_promise.ensures.same.2
-    (c.max-reached.ensures ∙ ap (max old.reached) c.number.ensures.is)
+    promise_whole g.D.Disk.stands_for old _ q i b prior None _ _ [] (record { me = refl; cluster = refl; releases = refl }) c.requires.running in_range refl refl refl refl c.on_promise.ensures.same.2 refl
     (proposes_none old.proposer new old.cluster q i b prior answer taken c.in-Ok-None.field-0-is)
     (c.reserve.ensures.items ∙ sym (append-nil c.args.outbox.now.items))
     (λ attempts are. refl)
@@ -69,8 +67,8 @@ returns-in-Err-clause-event g c in_range =
     })
 
 pub returns-in_err-reserve-clause-event : goal.returns-in_err-reserve-clause-event
-returns-in_err-reserve-clause-event g c in_range =
-    delivery_wants g.D.Disk.stands_for c.args.self.now _ (Promise c.args.from c.args.instance c.args.ballot (vote_told c.args.prior)) c.from_residual.result _ _ (record { me = refl; cluster = refl; releases = refl }) c.requires.running in_range (λ s stands. tt) c.reserve.ensures.items c.from_residual.ensures.1 refl (record { learner = refl; known = refl; queue = refl; attempts = λ a are. are; heard = refl }) refl
+returns-in_err-reserve-clause-event g c =
+    delivery_wants g.D.Disk.stands_for c.args.self.now (Promise c.args.from c.args.instance c.args.ballot (vote_told c.args.prior)) c.from_residual.result _ _ c.requires.running (λ s stands. tt) c.reserve.ensures.items c.from_residual.ensures.1
 
 pub returns-in-Ok-Some-clause-grows : goal.returns-in-Ok-Some-clause-grows
 returns-in-Ok-Some-clause-grows g c = one_more _ _ _ _ c.reserve.ensures.items c.push_reserved.ensures.items
