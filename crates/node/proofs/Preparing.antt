@@ -20,7 +20,7 @@ use Rattle.node.specs.Judgements.{Rises, IsJudgement, IsOwed}
 use Rattle.node.specs.Standing.{IsNodeOf}
 use Rattle.node.proofs.Judging.{judged_by, rising, free_owed, owed_in}
 use Rattle.node.proofs.Muting.{Speaks}
-use Rattle.node.proofs.Stepping.{touched}
+use Rattle.node.proofs.Handling.{touched}
 use Rattle.node.proofs.Verdicts.{proposes, proposal_effect}
 
 refuses : (c : BallotOf) → nack c ≡ no_answer → ⊥

@@ -33,13 +33,12 @@ use Rattle.node.specs.declared.node.Node.{Node as Running}
 use Rattle.node.specs.declared.to.To.{To}
 use Rattle.node.specs.Nodes.{Value, Up, Stopped, Node, BeginsKnown}
 use Rattle.node.specs.Calls.{Call, deliver, Does}
-use Rattle.node.specs.Deliveries.{reached_by}
 use Rattle.node.specs.Effects.{Effect, recorded}
 use Rattle.node.specs.Endings.{Ending, Whole, Refused, Failed, Ends, EndsWhole, EndsRefused, EndsFailed, TakesRoom, Refuses}
 use Rattle.node.specs.Faults.{of_record}
 use Rattle.node.specs.Ahead.{StaysAhead}
 use Rattle.node.specs.Ranges.{HasRanges, IsCallInRange}
-use Rattle.node.specs.Standing.{ending_by, ending_of, counted, IsOnRecord, HasParts, IsNodeOf, IsOnDisk, IsEither, StaysOnDisk, Leads, IsEvent, IsHandled, KeepsOthers}
+use Rattle.node.specs.Standing.{ending_by, ending_of, IsOnRecord, HasParts, IsNodeOf, IsOnDisk, IsEither, StaysOnDisk, Leads, IsEvent, KeepsOthers}
 use Rattle.node.specs.Waiting.{AreWaiting}
 use Rattle.node.proofs.Knowing.{beginning_stays}
 use Rattle.node.proofs.Ranging.{stays_in_range, says_messages}
@@ -58,10 +57,6 @@ off e = cc
 
 inside : (x y : RecordFault) → ◌≡◌ {A = Result (Unit {0}) RecordFault} (Err x) (Err y) → x ≡ y
 inside x y e = cc
-
--- the message is counted
-abbrev pub touched : Message → Node → Node
-touched m s = record s { reached = reached_by s.reached m }
 
 module _ {D : Type 0} where
   -- ---- a node that runs
@@ -321,19 +316,6 @@ module _ {D : Type 0} where
     wants_memory old new call r before after others in_range told is why store same =
         subst (λ ending. IsEvent stands_for old new call ending before after) (sym (ending_err r fault.OutOfMemory is)) (refused old new call fault.OutOfMemory before after others in_range told why store same)
 
-    -- a fault is not counted
-    pub faulted : (old new : Running D) (m : Message) (r : Result (Unit {0}) NodeFault) (cause : NodeFault) (before after : Handed) → IsErrAnd r (λ y. y ≡ cause) → IsEvent stands_for old new (deliver m) (ending_of r) before after
-        → IsEvent stands_for old (counted old m r new) (deliver m) (ending_of r) before after
-    faulted old new m (Ok x) cause before after is event = absurd is
-    faulted old new m (Err y) cause before after is event = event
-
-    -- so of a message that may take room
-    pub delivery_wants : (old : Running D) (m : Message) (r : Result (Unit {0}) NodeFault) (before after : Handed) → old.store.stopped ≡ false → ((s : Node) → IsNodeOf old s → TakesRoom s m) → after ≡ before → IsErrAnd r (λ y. y ≡ fault.OutOfMemory)
-        → IsHandled stands_for old old m r before after
-    delivery_wants old m r before after runs takes told is in_range =
-        faulted old old m r fault.OutOfMemory before after is (wants_memory old old (deliver m) r before after (record { me = refl; cluster = refl; releases = refl }) in_range told is
-        (λ s stands. (is_up old s stands.parts runs, takes s stands)) (same_store old.store old.store refl) (λ s parts. parts))
-
     -- ---- a put
 
     module _ (failed : D → ℕ) (old new : Running D) (entry : Entry) (others : KeepsOthers old new) (runs : old.store.stopped ≡ false) where
@@ -455,24 +437,6 @@ module _ {D : Type 0} where
                     }) (told ∙ sym (append-nil before));
               })
 
-    -- ---- a message that counts for wanting a tick
-
-    -- an entry is on record, and then the messages are handed out
-    pub put_whole : (failed : D → ℕ) (old new : Running D) (m : Message) (entry : Entry) (before after wanted out : Handed) → KeepsOthers old new → old.store.stopped ≡ false → IsMessage old.cluster m → KeepsRest old new
-        → new.reached ≡ reached_by old.reached m → Puts stands_for failed old.store new.store entry (Ok tt) → after ≡ before ++ out → wanted ≡ out
-        → ((s : Node) → IsNodeOf old s → Does old.cluster old.me s (deliver m) (record { entry = Some entry; after = touched m s; out = wanted }))
-        → IsEvent stands_for old new (deliver m) Whole before after
-    put_whole failed old new m entry before after wanted out others runs in_range rest reached puts told same does =
-        whole old new (deliver m) before after out others runs in_range told (λ s stands.
-        let t : Node = record (touched m s) { entries = s.entries ++ entry ∷ [] } in
-        record {
-          effect = record { entry = Some entry; after = touched m s; out = wanted };
-          does = does s stands;
-          handed = same;
-          parts = rest_with old new s t others stands.parts rest (put_record failed old new entry others runs s stands.parts puts.put) (λ k. record t { reached = (sym (reached ∙ ap (λ r. reached_by r m) stands.parts.reached)) k });
-          stays = put_stays failed old new entry others runs s t stands.parts puts.acknowledged (λ open_now. (puts.batched open_now).ahead) refl refl;
-        })
-
     -- an entry is on record, and nothing else changes
     pub put_alone : (failed : D → ℕ) (old new : Running D) (call : Call) (entry : Entry) (before : Handed) → KeepsOthers old new → old.store.stopped ≡ false → IsCallInRange old.cluster call → KeepsRest old new
         → new.reached ≡ old.reached → Puts stands_for failed old.store new.store entry (Ok tt)
@@ -487,30 +451,4 @@ module _ {D : Type 0} where
           handed = refl;
           parts = rest_with old new s t others stands.parts rest (put_record failed old new entry others runs s stands.parts puts.put) (λ k. record t { reached = (sym (reached ∙ stands.parts.reached)) k });
           stays = put_stays failed old new entry others runs s t stands.parts puts.acknowledged (λ open_now. (puts.batched open_now).ahead) refl refl;
-        })
-
-    -- nothing goes on record, and nothing else changes
-    pub quiet_whole : (old : Running D) (m : Message) (before after wanted out : Handed) → old.store.stopped ≡ false → after ≡ before ++ out → wanted ≡ out
-        → ((s : Node) → IsNodeOf old s → Does old.cluster old.me s (deliver m) (record { entry = None; after = touched m s; out = wanted }))
-        → IsHandled stands_for old old m (Ok tt) before after
-    quiet_whole old m before after wanted out runs told same does in_range =
-        let new = counted old m (Ok tt) old in
-        let others : KeepsOthers old new = record { me = refl; cluster = refl; releases = refl } in
-        let seems = same_store old.store old.store refl in
-        whole old new (deliver m) before after out others runs in_range told (λ s stands.
-        let t : Node = touched m s in
-        record {
-          effect = record { entry = None; after = t; out = wanted };
-          does = does s stands;
-          handed = same;
-          parts = record {
-            on_record = stands.parts.on_record;
-            votes = stands.parts.votes;
-            known = stands.parts.known;
-            attempts = stands.parts.attempts;
-            pending = stands.parts.pending;
-            heard = stands.parts.heard;
-            reached = ap (λ r. reached_by r m) stands.parts.reached;
-          };
-          stays = stays_there old new s t others seems refl refl;
         })

@@ -1,6 +1,6 @@
 //! A vote that is delivered.
 
-ghost use Rattle.std.specs.Prelude.{◌≡◌, IsErrOf, List, false};
+ghost use Rattle.std.specs.Prelude.{◌≡◌, List, false};
 
 use crate::{Node, NodeFault};
 use site_disk::Disk;
@@ -9,7 +9,7 @@ use wire::Message;
 
 impl<D: Disk> Node<D> {
     ghost use Rattle.node.specs.declared.to.To.{To};
-    ghost use Rattle.node.specs.Standing.{IsHandled, KeepsOthers};
+    ghost use Rattle.node.specs.Standing.{IsHandled};
 
     /// Counts a vote at an unknown instance. Its value becomes known if the votes are now those of a
     /// majority.
@@ -21,10 +21,8 @@ impl<D: Disk> Node<D> {
         value: &Value,
     ) -> Result<(), NodeFault>
         requires running { self.old.store.stopped ≡ false }
-        ensures event { (before : List (To × Message)) → IsHandled D.stands_for self.old self.new
+        ensures { (before : List (To × Message)) → IsHandled D.stands_for D.failed self.old self.new
             (Message.Accepted from instance ballot value.now) result before before }
-        ensures no_put { (¬ IsErrOf result NodeFault.Device) × (self.new.store ≡ self.old.store) }
-        ensures others { KeepsOthers self.old self.new }
     {
         if self.known.log.get(instance).is_some() {
             return Ok(());

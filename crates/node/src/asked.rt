@@ -1,6 +1,6 @@
 //! A question that is delivered.
 
-ghost use Rattle.std.specs.Prelude.{◌≡◌, IsErrOf, false};
+ghost use Rattle.std.specs.Prelude.{◌≡◌, false};
 
 use crate::{Node, NodeFault, Outbox, To};
 use site_disk::Disk;
@@ -8,7 +8,7 @@ use site_ids::{Instance, NodeId};
 use wire::Message;
 
 impl<D: Disk> Node<D> {
-    ghost use Rattle.node.specs.Standing.{IsHandled, OnlyGrows, KeepsOthers};
+    ghost use Rattle.node.specs.Standing.{IsHandled};
 
     /// If the value is known, it goes to the node that asked.
     pub(crate) fn on_ask(
@@ -18,11 +18,8 @@ impl<D: Disk> Node<D> {
         outbox: &mut Outbox,
     ) -> Result<(), NodeFault>
         requires running { self.old.store.stopped ≡ false }
-        ensures event { IsHandled D.stands_for self.old self.new (Message.Ask from instance)
+        ensures { IsHandled D.stands_for D.failed self.old self.new (Message.Ask from instance)
             result outbox.old.items outbox.new.items }
-        ensures no_put { (¬ IsErrOf result NodeFault.Device) × (self.new.store ≡ self.old.store) }
-        ensures grows { OnlyGrows outbox.old.items outbox.new.items }
-        ensures others { KeepsOthers self.old self.new }
     {
         let Some(value) = self.known.log.get(instance) else {
             return Ok(());

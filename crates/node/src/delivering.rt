@@ -57,11 +57,8 @@ impl<D: Disk> Node<D> {
     fn handle(&mut self, message: &Message, outbox: &mut Outbox) -> Result<(), NodeFault>
         requires running { self.old.store.stopped ≡ false }
         requires of_cluster { IsMessage self.old.cluster message.now }
-        ensures event { IsHandled D.stands_for self.old self.new message.now
+        ensures { IsHandled D.stands_for D.failed self.old self.new message.now
             result outbox.old.items outbox.new.items }
-        ensures counts { CountsDevice result (D.failed self.old.store.disk) (D.failed self.new.store.disk) }
-        ensures grows { OnlyGrows outbox.old.items outbox.new.items }
-        ensures others { KeepsOthers self.old self.new }
     {
         match message {
             Message::Prepare {

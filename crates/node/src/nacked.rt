@@ -10,16 +10,14 @@ use wire::Message;
 
 impl<D: Disk> Node<D> {
     ghost use Rattle.node.specs.declared.to.To.{To};
-    ghost use Rattle.node.specs.Standing.{IsHandled, KeepsOthers};
+    ghost use Rattle.node.specs.Standing.{IsHandled};
 
     /// A refusal is only a hint: a round as high as this was promised.
     pub(crate) fn on_nack(&mut self, promised: Ballot)
         requires running { self.old.store.stopped ≡ false }
-        ensures event { (from instance : ℕ) (asked : BallotOf) (before : List (To × Message))
-            → IsHandled D.stands_for self.old self.new
+        ensures { (from instance : ℕ) (asked : BallotOf) (before : List (To × Message))
+            → IsHandled D.stands_for D.failed self.old self.new
             (Message.Nack from instance asked promised) (Ok tt) before before }
-        ensures no_put { self.new.store ≡ self.old.store }
-        ensures others { KeepsOthers self.old self.new }
     {
         self.proposer.on_nack(promised);
     }

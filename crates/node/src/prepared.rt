@@ -1,6 +1,6 @@
 //! A prepare that is delivered: each instance of its span is judged by itself.
 
-ghost use Rattle.std.specs.Prelude.{◌≡◌, ◌+◌, ◌-◌, ℕ, IfOk, OnOk, OnErr, IsErrOf, false};
+ghost use Rattle.std.specs.Prelude.{◌≡◌, ◌+◌, ◌-◌, ℕ, IfOk, OnOk, OnErr, false};
 ghost use Rattle.site_ids.specs.Ids.{IsNode};
 ghost use Rattle.site_ids.specs.Spans.{IsSpan, IsInSpan};
 ghost use Rattle.acceptor.specs.Judging.{IsFreeBelow};
@@ -56,7 +56,7 @@ pub(crate) struct Judgement {
 }
 
 impl<D: Disk> Node<D> {
-    ghost use Rattle.node.specs.Standing.{IsHandled, OnlyGrows, KeepsOthers, CountsDevice};
+    ghost use Rattle.node.specs.Standing.{IsHandled};
     ghost use Rattle.node.specs.Judgements.{IsJudgement, JudgesMore, IsOwed};
 
     /// A promise is on record before it is handed out. The promise of a span is one entry for the whole span,
@@ -72,11 +72,8 @@ impl<D: Disk> Node<D> {
         requires running { self.old.store.stopped ≡ false }
         requires of_cluster { IsNode self.old.cluster ballot.node }
         requires span { IsSpan first count }
-        ensures event { (from : ℕ) → IsHandled D.stands_for self.old self.new
+        ensures { (from : ℕ) → IsHandled D.stands_for D.failed self.old self.new
             (Message.Prepare from first ballot count) result outbox.old.items outbox.new.items }
-        ensures counts { CountsDevice result (D.failed self.old.store.disk) (D.failed self.new.store.disk) }
-        ensures grows { OnlyGrows outbox.old.items outbox.new.items }
-        ensures others { KeepsOthers self.old self.new }
     {
         if self.is_mute(first) {
             return Ok(());

@@ -1,6 +1,6 @@
 //! A promise that is delivered.
 
-ghost use Rattle.std.specs.Prelude.{◌≡◌, IsErrOf, false};
+ghost use Rattle.std.specs.Prelude.{◌≡◌, false};
 ghost use Rattle.site_ids.specs.Ids.{IsNode};
 ghost use Rattle.proposer.specs.Best.{vote_told};
 
@@ -11,7 +11,7 @@ use site_ids::{Ballot, Instance, NodeId, Vote};
 use wire::Message;
 
 impl<D: Disk> Node<D> {
-    ghost use Rattle.node.specs.Standing.{IsHandled, OnlyGrows, KeepsOthers};
+    ghost use Rattle.node.specs.Standing.{IsHandled};
 
     /// A majority's promises lead to a proposal.
     pub(crate) fn on_promise(
@@ -24,12 +24,9 @@ impl<D: Disk> Node<D> {
     ) -> Result<(), NodeFault>
         requires running { self.old.store.stopped ≡ false }
         requires of_cluster { IsNode self.old.cluster from }
-        ensures event { IsHandled D.stands_for self.old self.new
+        ensures { IsHandled D.stands_for D.failed self.old self.new
             (Message.Promise from instance ballot (vote_told prior.entry))
             result outbox.old.items outbox.new.items }
-        ensures no_put { (¬ IsErrOf result NodeFault.Device) × (self.new.store ≡ self.old.store) }
-        ensures grows { OnlyGrows outbox.old.items outbox.new.items }
-        ensures others { KeepsOthers self.old self.new }
     {
         outbox.reserve(1)?;
         match self.proposer.on_promise(from, instance, ballot, prior) {

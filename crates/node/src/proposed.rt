@@ -1,6 +1,6 @@
 //! A proposal that is delivered.
 
-ghost use Rattle.std.specs.Prelude.{◌≡◌, ◌≤◌, ℕ, IsErrOf, length, false};
+ghost use Rattle.std.specs.Prelude.{◌≡◌, ◌≤◌, ℕ, length, false};
 ghost use Rattle.site_ids.specs.declared.TheConstants.{MAX_VALUE};
 ghost use Rattle.site_ids.specs.Ids.{IsNode};
 
@@ -12,7 +12,7 @@ use site_ids::{Ballot, Instance, Value};
 use wire::Message;
 
 impl<D: Disk> Node<D> {
-    ghost use Rattle.node.specs.Standing.{IsHandled, OnlyGrows, KeepsOthers, CountsDevice};
+    ghost use Rattle.node.specs.Standing.{IsHandled};
 
     /// A vote is on record before it is handed out. A node that is mute at the instance casts none.
     pub(crate) fn on_propose(
@@ -25,11 +25,8 @@ impl<D: Disk> Node<D> {
         requires running { self.old.store.stopped ≡ false }
         requires of_cluster { IsNode self.old.cluster ballot.node }
         requires fits { length value.now ≤ MAX_VALUE }
-        ensures event { (from : ℕ) → IsHandled D.stands_for self.old self.new
+        ensures { (from : ℕ) → IsHandled D.stands_for D.failed self.old self.new
             (Message.Propose from instance ballot value.now) result outbox.old.items outbox.new.items }
-        ensures counts { CountsDevice result (D.failed self.old.store.disk) (D.failed self.new.store.disk) }
-        ensures grows { OnlyGrows outbox.old.items outbox.new.items }
-        ensures others { KeepsOthers self.old self.new }
     {
         if self.is_mute(instance) {
             return Ok(());

@@ -11,10 +11,10 @@ returns-then-is_stopped-clause-event g c = refused_stopped g.D.Disk.stands_for c
 pub returns-in_err-handle-clause-event : goal.returns-in_err-handle-clause-event
 returns-in_err-handle-clause-event g c =
     subst (λ (ending : Ending). IsEvent g.D.Disk.stands_for c.args.self.now c.handle.new.self (delivery c.args.message.now) ending c.args.outbox.now.items c.handle.new.outbox.items) (sym (ending_err c.from_residual.result c.in_err-handle.field-0.0 c.from_residual.ensures.1))
-    (c.in_err-handle.ensures.event c.requires)
+    (c.in_err-handle.ensures c.requires).event
 
 pub returns-clause-event : goal.returns-clause-event
 returns-clause-event g c =
     carried g.D.Disk.stands_for c.args.self.now (counted c.args.self.now c.args.message.now (Ok tt) c.handle.new.self) _ (delivery c.args.message.now) Whole _ _ (record { me = refl; cluster = refl; releases = refl }) refl
     (record { learner = refl; known = refl; queue = refl; attempts = λ a are. are; heard = refl }) c.reached_with-reached.ensures
-    (c.in_ok-handle.ensures.event c.requires)
+    (c.in_ok-handle.ensures c.requires).event
