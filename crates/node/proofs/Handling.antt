@@ -31,7 +31,7 @@ module _ {D : Type 0} (stands_for : D → DiskState → Type 0) (failed : D → 
 
   -- nothing goes on record
   pub handled : (old now : Running D) (m : Message) (before after out : Handed) → KeepsOthers old now → old.store.stopped ≡ false → IsMessage old.cluster m → now.store ≡ old.store → after ≡ before ++ out
-      → ((s : Node) → IsNodeOf old s → Done stands_for old now (deliver m) out s) → TakesCall stands_for failed old now (deliver m) (Ok tt) before after
+      → ((s : Node) → IsNodeOf old s → Done stands_for old now (deliver m) out s) → TakesCall stands_for failed old now (deliver m) (Ok (tt {0})) before after
   handled old now m before after out others runs in_range store told done = record {
     event = whole stands_for old now (deliver m) before after out others runs in_range told done;
     counts = counts_ok tt (failed old.store.disk) (failed now.store.disk) (ap (λ (r : Record D). failed r.disk) store);
@@ -68,7 +68,7 @@ module _ {D : Type 0} (stands_for : D → DiskState → Type 0) (failed : D → 
   pub put_whole : (old now : Running D) (m : Message) (entry : Entry) (before after wanted out : Handed) → KeepsOthers old now → old.store.stopped ≡ false → IsMessage old.cluster m → KeepsRest old now
       → now.reached ≡ reached_by old.reached m → Puts stands_for failed old.store now.store entry (Ok tt) → after ≡ before ++ out → wanted ≡ out
       → ((s : Node) → IsNodeOf old s → Does old.cluster old.me s (deliver m) (record { entry = Some entry; after = touched m s; out = wanted }))
-      → TakesCall stands_for failed old now (deliver m) (Ok tt) before after
+      → TakesCall stands_for failed old now (deliver m) (Ok (tt {0})) before after
   put_whole old now m entry before after wanted out others runs in_range rest reached puts told same does = record {
     event = whole stands_for old now (deliver m) before after out others runs in_range told (λ s stands.
         let t : Node = record (touched m s) { entries = s.entries ++ entry ∷ [] } in

@@ -54,7 +54,7 @@ module _ {D : Type 0} (stands_for : D → DiskState → Type 0) (failed : D → 
   pub promise_whole : (old new : Running D) (q i : ℕ) (b : BallotOf) (prior : Option Vote) (proposed : Option Value) (before after out : Handed) → KeepsOthers old new → old.store.stopped ≡ false
       → IsMessage old.cluster (Promise q i b prior) → new.store ≡ old.store → new.learner ≡ old.learner → new.known ≡ old.known → new.queue ≡ old.queue → new.proposer.heard ≡ old.proposer.heard → new.reached ≡ reached_by old.reached (Promise q i b prior)
       → StepsTo old.proposer new.proposer old.cluster q i b prior proposed → after ≡ before ++ out → ((attempts : ℕ → Option Attempt) → Attempting old.proposer attempts → promise_out old.me i b proposed ≡ out)
-      → TakesCall stands_for failed old new (deliver (Promise q i b prior)) (Ok tt) before after
+      → TakesCall stands_for failed old new (deliver (Promise q i b prior)) (Ok (tt {0})) before after
   promise_whole old new q i b prior proposed before after out others runs in_range store learner known queue heard reached steps told same =
       let seems = same_store old.store new.store store in
       handled stands_for failed old new (Promise q i b prior) before after out others runs in_range store told (λ s stands.
