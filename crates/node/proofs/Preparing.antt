@@ -1,7 +1,7 @@
 -- What a prepare and a proposal do at a node, by the verdicts on them.
 use Rattle.std.proofs.Common.{◌≡◌, ◌≢◌, inl, inr, ℕ, Bool, true, false, Some, None, [], refl, sym, subst, ◌∙◌}
 use Rattle.site_ids.specs.Ids.{BallotOf}
-use Rattle.site_ids.specs.Spans.{IsInSpan, last_of}
+use Rattle.site_ids.specs.Spans.{IsInSpan}
 use Rattle.acceptor.specs.declared.slot.Slot.{Slot}
 use Rattle.acceptor.specs.declared.judging.ProposeVerdict.{ProposeVerdict}
 use Rattle.acceptor.specs.declared.judging.ProposeVerdict.TheVariants as to_proposal

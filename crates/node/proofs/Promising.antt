@@ -1,5 +1,5 @@
 -- A promise that is delivered, by the proposer's step.
-use Rattle.std.proofs.Common.{◌≡◌, ℕ, max, false, Option, Some, None, Ok, Err, [], ◌∷◌, ◌++◌, refl, sym, ap, subst, ◌∙◌}
+use Rattle.std.proofs.Common.{◌≡◌, ℕ, false, Option, Some, None, Ok, Err, [], ◌∷◌, ◌++◌, refl, sym, ap, subst, ◌∙◌}
 use Rattle.site_disk.specs.Model.{DiskState}
 use Rattle.std.specs.Prelude.{◌↔◌}
 use Rattle.site_ids.specs.Ids.{BallotOf}

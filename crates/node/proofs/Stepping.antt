@@ -1,11 +1,10 @@
 -- The three endings of a call, from what the code did.
-use Rattle.std.proofs.Common.{◌≡◌, ℕ, max, true, false, cond, ◌⊎◌, inl, inr, ⊎_elim, Result, Ok, Err, Option, Some, None, List, [], ◌∷◌, ◌++◌, length, refl, sym, ap, subst, ◌∙◌, append-nil, append_assoc, arith, length-append}
+use Rattle.std.proofs.Common.{◌≡◌, ℕ, true, false, cond, ◌⊎◌, inl, inr, ⊎_elim, Result, Ok, Err, Option, Some, None, List, [], ◌∷◌, ◌++◌, refl, sym, ap, subst, ◌∙◌, append-nil, append_assoc, arith}
 use Rattle.std.specs.Prelude.{◌↔◌, IsErrOf}
 use Rattle.std.specs.Result.{IsErrAnd}
 use Rattle.site_disk.specs.Model.{DiskState}
 use Rattle.site_ids.specs.Lists.{In}
 use Rattle.wire.specs.declared.message.Message.{Message}
-use Rattle.wire.specs.Messages.{IsMessage}
 use Rattle.durable.specs.Entries.{Entry}
 use Rattle.durable.specs.Histories.{MayFollow, IsHistory}
 use Rattle.durable.specs.Keeping.{IsFound, Keeps}
@@ -32,9 +31,9 @@ use Rattle.node.specs.declared.queue.Queue.{Queue}
 use Rattle.node.specs.declared.node.Node.{Node as Running}
 use Rattle.node.specs.declared.to.To.{To}
 use Rattle.node.specs.Nodes.{Value, Up, Stopped, Node, BeginsKnown}
-use Rattle.node.specs.Calls.{Call, deliver, Does}
+use Rattle.node.specs.Calls.{Call, Does}
 use Rattle.node.specs.Effects.{Effect, recorded}
-use Rattle.node.specs.Endings.{Ending, Whole, Refused, Failed, Ends, EndsWhole, EndsRefused, EndsFailed, TakesRoom, Refuses}
+use Rattle.node.specs.Endings.{Ending, Whole, Refused, Failed, Ends, EndsWhole, EndsRefused, EndsFailed, Refuses}
 use Rattle.node.specs.Faults.{of_record}
 use Rattle.node.specs.Ahead.{StaysAhead}
 use Rattle.node.specs.Ranges.{HasRanges, IsCallInRange}

@@ -3,7 +3,7 @@
 //! An allocation may always fail for a promise (`TakesRoom`), as only the step shows whether there is a
 //! majority.
 
-ghost use Rattle.std.specs.Prelude.{◌≡◌, IsErrOf, false};
+ghost use Rattle.std.specs.Prelude.{◌≡◌, false};
 ghost use Rattle.wire.specs.Messages.{IsMessage};
 ghost use Rattle.node.specs.Deliveries.{reached_by};
 

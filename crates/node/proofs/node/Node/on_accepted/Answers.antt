@@ -101,4 +101,3 @@ returns g c before in_range =
   where
     off : true ≡ false → ⊥
     off e = cc
-

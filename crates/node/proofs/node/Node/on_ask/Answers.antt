@@ -37,4 +37,3 @@ returns-in_err-reserve g c =
 pub returns-in_err-value : goal.returns-in_err-value
 returns-in_err-value g c =
     delivery_wants g.D.Disk.stands_for g.D.Disk.failed c.args.self.now (Ask c.args.from c.args.instance) c.from_residual-in_err-value.result _ _ c.requires.running (λ s stands. (c.in-Some.value.now, sym (stands.parts.known.values c.args.instance) ∙ sym c.in-Some.ensures)) c.reserve.ensures.items c.from_residual-in_err-value.ensures.1
-

@@ -65,4 +65,3 @@ returns g c from before =
     let same : c.in-Some.known.now ≡ v = sym c.as_bytes.ensures ∙ equal ∙ c.as_bytes-2.ensures in
     quiet_whole g.D.Disk.stands_for g.D.Disk.failed old (Chosen from i v) before before [] [] c.requires.running (sym (append-nil before)) refl
     (λ s stands. inr (sym (stands.parts.known.values i) ∙ sym c.in-Some.ensures ∙ ap (λ (x : Value). Some x) same, refl))
-

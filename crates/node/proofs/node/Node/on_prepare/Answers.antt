@@ -1,4 +1,4 @@
-use Rattle.std.proofs.Common.{◌≡◌, ◌≢◌, ◌+◌, ◌-◌, true, inl, [], ◌++◌, length, refl, sym, ap, ◌∙◌, append-nil, arith}
+use Rattle.std.proofs.Common.{◌≡◌, ◌≢◌, true, inl, [], ◌++◌, length, refl, sym, ap, ◌∙◌, append-nil, arith}
 use Rattle.wire.specs.declared.message.Message.TheVariants.{Prepare}
 use Rattle.durable.specs.Entries.{promise_of}
 use Rattle.node.specs.Deliveries.{span_out}
@@ -89,4 +89,3 @@ returns g c from in_range =
     (when_ok c.append-2.result _ _ _ (c.append-2.ensures.succeeds (omega (arith, c.in_ok-reserve.ensures.ok, c.len.ensures))) c.append-2.ensures.items ∙ ap (λ (l : Handed). l ++ out) c.reserve.ensures.items)
     (sym is.answers)
     (prepare_rises old i b k told is from (so_it_is_not old c.is_mute.result (λ s. IsMute s c.args.first) c.is_mute.ensures c.if-is_mute.false) c.if-not-judgement.false)
-

@@ -66,4 +66,3 @@ returns-in-Err g c =
 pub returns-in_err-reserve : goal.returns-in_err-reserve
 returns-in_err-reserve g c =
     delivery_wants g.D.Disk.stands_for g.D.Disk.failed c.args.self.now (Promise c.args.from c.args.instance c.args.ballot (vote_told c.args.prior)) c.from_residual.result _ _ c.requires.running (λ s stands. tt) c.reserve.ensures.items c.from_residual.ensures.1
-

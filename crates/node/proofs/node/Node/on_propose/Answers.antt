@@ -112,4 +112,3 @@ returns-in_err-copy-in-Again g c from =
 pub returns-in_err-reserve-in-Nack : goal.returns-in_err-reserve-in-Nack
 returns-in_err-reserve-in-Nack g c from =
     delivery_wants g.D.Disk.stands_for g.D.Disk.failed c.args.self.now (Propose from c.args.instance c.args.ballot c.args.value.now) c.from_residual-in_err-reserve-in-Nack.result _ _ c.requires.running (proposal_takes c.args.self.now c.args.instance c.slot.result.now c.slot.ensures (so_it_is_not c.args.self.now c.is_mute.result (λ s. IsMute s c.args.instance) c.is_mute.ensures c.if-is_mute.false) c.args.ballot c.args.value.now (verdict.Nack c.in-Nack.promised) c.in-Nack.ensures (λ e. cc)) c.reserve-in-Nack.ensures.items c.from_residual-in_err-reserve-in-Nack.ensures.1
-
