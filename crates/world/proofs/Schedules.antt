@@ -90,7 +90,7 @@ some_schedule_publishes = record {
   releases = refl;
   submitted = (1, inl refl);
   crashes = (2, 1, in_get (events_of to_publish) 8 (Crash 2 1) refl);
-  runs = taken_is_a_schedule 3 _ _ _ ran_to_publish.1;
+  runs = taken_is_a_schedule 3 (world_by started) (world_by ran_to_publish.0) (events_of to_publish) ran_to_publish.1;
   takes = ran_to_publish.1;
   decides = decided_by 3 ran_to_publish.0.sent (at 1 1) (a_release 1) 4 5 1 2 refl refl tt;
   publishes = record { begins = knows_release; some = omega arith; has = omega (arith, one_of_one) };
