@@ -5,8 +5,7 @@
 //! released. The other editor's release may show a part of these commands, as they came into the log one
 //! after another.
 ghost use Rattle.std.specs.Prelude.{◌≡◌, map, slice_get, IfOk, string_bytes};
-ghost use Rattle.editor_publish.specs.Taking.{shows_some, is_own, is_fresh, takes, taken_of, others_of};
-ghost use Rattle.editor_publish.specs.Taking.{fresh_of};
+ghost use Rattle.editor_publish.specs.Taking.{shows_some, is_own, is_fresh, is_one, those_of};
 
 use crate::comparing::shows;
 use crate::own::OwnTexts;
@@ -30,9 +29,18 @@ pub(crate) struct Asked {
     pub states: Vec<Vec<String>>,
 }
 
-/// Of the paths that were compared, those that others took over; those that the group does not show as the
-/// folder's: these, and paths where nothing is any more; and those that it shows as the folder's, and not as
-/// at the folder's last release.
+/// Which of the paths that were compared.
+#[derive(Clone, Copy)]
+enum Which {
+    /// Those that others took over.
+    Taken,
+    /// Those that the group does not show as the folder's, be it that nothing is there any more.
+    Others,
+    /// Those that it shows as the folder's, and not as at the folder's last release.
+    Fresh,
+}
+
+/// The paths that were compared, by which they are (`Which`).
 #[derive(Drop)]
 pub(crate) struct Compared {
     pub taken: Vec<String>,
@@ -103,91 +111,51 @@ fn unanswered(alloc: Global, url: &str, path: &str) -> Result<EditorFault, Alloc
     Ok(EditorFault::Stop(format!(in alloc; "{url}{path}: was not answered")?))
 }
 
-/// Whether a path is taken over, by what a node answered for it; a status that no node gives is a fault.
-fn takes(
+/// Whether a path is one of these, by what a node answered for it; a status that no node gives is a fault.
+fn is_one(
     alloc: Global,
     url: &str,
     path: &str,
     place: usize,
     answer: &NodeAnswer,
     states: &[Vec<View>],
+    which: Which,
 ) -> Result<bool, EditorFault>
-    ensures { IfOk result (λ taken. taken ≡ takes answer.now place states.now) }
+    ensures { IfOk result (λ is. is ≡ is_one which answer.now place states.now) }
 {
-    match is_taken(answer.status, is_own(answer, states, place)) {
-        Some(taken) => Ok(taken),
-        None => Err(unanswered(alloc, url, path)?),
+    let own = is_own(answer, states, place);
+    match which {
+        Which::Taken => match is_taken(answer.status, own) {
+            Some(taken) => Ok(taken),
+            None => Err(unanswered(alloc, url, path)?),
+        },
+        Which::Others => Ok(!own),
+        Which::Fresh => Ok(is_fresh(answer, states, place)),
     }
 }
 
-/// Those of the paths that are taken over, by a node's answers, if the folder's own texts show these
-/// views.
-fn taken_of(
+/// Those of the paths, by a node's answers, if the folder's own texts show these views.
+fn those_of(
     alloc: Global,
     url: &str,
     paths: &[String],
     answers: &[NodeAnswer],
     states: &[Vec<View>],
+    which: Which,
 ) -> Result<Vec<String>, EditorFault>
-    ensures { IfOk result (λ taken. map string_bytes taken.items
-        ≡ taken_of states.now 0 (map string_bytes paths.now) answers.now) }
+    ensures { IfOk result (λ those. map string_bytes those.items
+        ≡ those_of which states.now 0 (map string_bytes paths.now) answers.now) }
 {
-    let mut taken = Vec::new(alloc);
+    let mut those = Vec::new(alloc);
     for (i, path) in paths.iter().enumerate() {
         let Some(answer) = answers.get(i) else {
             return Err(unanswered(alloc, url, path.as_str())?);
         };
-        if takes(alloc, url, path.as_str(), i, answer, states)? {
-            taken.push(path.clone()?)?;
+        if is_one(alloc, url, path.as_str(), i, answer, states, which)? {
+            those.push(path.clone()?)?;
         }
     }
-    Ok(taken)
-}
-
-/// Those of the paths that a node's answers do not show as the folder's own.
-fn others_of(
-    alloc: Global,
-    url: &str,
-    paths: &[String],
-    answers: &[NodeAnswer],
-    states: &[Vec<View>],
-) -> Result<Vec<String>, EditorFault>
-    ensures { IfOk result (λ others. map string_bytes others.items
-        ≡ others_of states.now 0 (map string_bytes paths.now) answers.now) }
-{
-    let mut others = Vec::new(alloc);
-    for (i, path) in paths.iter().enumerate() {
-        let Some(answer) = answers.get(i) else {
-            return Err(unanswered(alloc, url, path.as_str())?);
-        };
-        if !is_own(answer, states, i) {
-            others.push(path.clone()?)?;
-        }
-    }
-    Ok(others)
-}
-
-/// Those of the paths that a node's answers show as what the folder has put since its last release.
-fn fresh_of(
-    alloc: Global,
-    url: &str,
-    paths: &[String],
-    answers: &[NodeAnswer],
-    states: &[Vec<View>],
-) -> Result<Vec<String>, EditorFault>
-    ensures { IfOk result (λ fresh. map string_bytes fresh.items
-        ≡ fresh_of states.now 0 (map string_bytes paths.now) answers.now) }
-{
-    let mut fresh = Vec::new(alloc);
-    for (i, path) in paths.iter().enumerate() {
-        let Some(answer) = answers.get(i) else {
-            return Err(unanswered(alloc, url, path.as_str())?);
-        };
-        if is_fresh(answer, states, i) {
-            fresh.push(path.clone()?)?;
-        }
-    }
-    Ok(fresh)
+    Ok(those)
 }
 
 /// Those of the paths that a node's answers show as none of the folder's states has them, but as it has them
@@ -241,9 +209,9 @@ pub(crate) fn compare<N: Net<Stream = TcpStream>>(
     let answers = answers_at(net, alloc, node, release, paths)?;
     let url = node.url.as_str();
     let parts = parts_of(alloc, paths, &answers, &views, own)?;
-    let taken = taken_of(alloc, url, paths, &answers, &views)?;
-    let others = others_of(alloc, url, paths, &answers, &views)?;
-    let mut fresh = fresh_of(alloc, url, paths, &answers, &views)?;
+    let taken = those_of(alloc, url, paths, &answers, &views, Which::Taken)?;
+    let others = those_of(alloc, url, paths, &answers, &views, Which::Others)?;
+    let mut fresh = those_of(alloc, url, paths, &answers, &views, Which::Fresh)?;
     let (taken, others) = (apart(alloc, taken, &parts)?, apart(alloc, others, &parts)?);
     let mut parts: Vec<String> = parts.into_iter().collect(alloc)?;
     fresh.append(&mut parts)?;

@@ -54,39 +54,6 @@ fn ledger_of<R: Files + RandomSource + AllocGlobal>(
     }
 }
 
-/// Publishes texts into the group of some addresses, or tells what would be.
-fn publish_wanted<
-    'a,
-    R: Files + Net<Stream = TcpStream> + Clock + RandomSource + AllocGlobal,
-    W: Write,
-    E: Write,
->(
-    rt: &'a R,
-    out: &mut W,
-    err: &'a mut E,
-    outcome: &'a mut Outcome,
-    group: &'a mut Group,
-    how: &'a PublishWord<'a>,
-    mut ledger: Ledger,
-    wanted: &[&str],
-) -> Result<Ending, EditorFault>
-    ensures { IfOk result (MayEnd how.now.dry_run how.now.exit_code) }
-{
-    let mut publisher = Publisher {
-        rt,
-        err,
-        outcome,
-        group,
-        ledger: &mut ledger,
-        how,
-    };
-    if how.dry_run {
-        let found = publisher.tell_plan(out, wanted)?;
-        return Ok(Ending::of_dry_run(found, how.exit_code));
-    }
-    Ok(Ending::of(publisher.publish(out, wanted)?))
-}
-
 /// Tells that a folder has no page.
 fn tell_no_page<E: Write>(alloc: Global, err: &mut E, folder: &str) -> Result<(), EditorFault> {
     Ok(say_made(
@@ -97,59 +64,11 @@ fn tell_no_page<E: Write>(alloc: Global, err: &mut E, folder: &str) -> Result<()
     )?)
 }
 
-/// Publishes a folder without a fault.
-fn publish_clean<
-    R: Files + Net<Stream = TcpStream> + Clock + RandomSource + AllocGlobal,
-    W: Write,
-    E: Write,
->(
-    rt: &R,
-    out: &mut W,
-    err: &mut E,
-    outcome: &mut Outcome,
-    group: &mut Group,
-    how: &PublishWord<'_>,
-    clean: &Clean,
-) -> Result<Ending, EditorFault>
-    ensures { IfOk result (MayEnd how.now.dry_run how.now.exit_code) }
-{
-    if clean.pages.is_empty() {
-        tell_no_page(rt.alloc(), err, how.folder)?;
-        return Ok(Ending::Bad);
-    }
-    let wanted = texts_of(rt.alloc(), &clean.folder)?;
-    let ledger = ledger_of(rt, how.folder, how.editor)?;
-    publish_wanted(rt, out, err, outcome, group, how, ledger, &wanted)
-}
-
 /// Keeps what is wrong with a folder that was read.
 fn keep_findings(alloc: Global, outcome: &mut Outcome, read: &Read) -> Result<(), AllocError> {
     let mut findings = Vec::new(alloc);
     list_findings(alloc, &mut findings, &read.findings)?;
     outcome.put(alloc, "findings", Value::Array(findings))
-}
-
-/// Reads a folder, and publishes it where it has no fault.
-fn publish_folder<
-    R: Files + Net<Stream = TcpStream> + Clock + RandomSource + AllocGlobal + Clone + Drop,
-    W: Write,
-    E: Write,
->(
-    rt: &R,
-    out: &mut W,
-    err: &mut E,
-    outcome: &mut Outcome,
-    group: &mut Group,
-    how: &PublishWord<'_>,
-) -> Result<Ending, EditorFault>
-    ensures { IfOk result (MayEnd how.now.dry_run how.now.exit_code) }
-{
-    let read = read_folder(rt, how.folder, how.ignore)?;
-    keep_findings(rt.alloc(), outcome, &read)?;
-    match clean_of(rt.alloc(), err, how.folder, read)? {
-        Some(clean) => publish_clean(rt, out, err, outcome, group, how, &clean),
-        None => Ok(Ending::Bad),
-    }
 }
 
 /// The ledger of a folder that has published.
@@ -167,50 +86,6 @@ fn ledger_there<R: Files + RandomSource + AllocGlobal>(
     Ok(ledger)
 }
 
-/// Publishes a release of a folder's history once more. The folder's files stay as they are.
-fn publish_release<
-    R: Files + Net<Stream = TcpStream> + Clock + RandomSource + AllocGlobal + Clone + Drop,
-    W: Write,
-    E: Write,
->(
-    rt: &R,
-    out: &mut W,
-    err: &mut E,
-    outcome: &mut Outcome,
-    group: &mut Group,
-    how: &PublishWord<'_>,
-    release: u64,
-) -> Result<Ending, EditorFault>
-    ensures { IfOk result (MayEnd how.now.dry_run how.now.exit_code) }
-{
-    let ledger = ledger_there(rt, how)?;
-    let texts = release_texts(rt.alloc(), how.folder, &ledger, release)?;
-    let wanted = lent(rt.alloc(), &texts)?;
-    tell_disk(rt, err, outcome, how, release, &wanted)?;
-    publish_wanted(rt, out, err, outcome, group, how, ledger, &wanted)
-}
-
-/// Publishes what is to become the next release.
-fn publish_next<
-    R: Files + Net<Stream = TcpStream> + Clock + RandomSource + AllocGlobal + Clone + Drop,
-    W: Write,
-    E: Write,
->(
-    rt: &R,
-    out: &mut W,
-    err: &mut E,
-    outcome: &mut Outcome,
-    group: &mut Group,
-    how: &PublishWord<'_>,
-) -> Result<Ending, EditorFault>
-    ensures { IfOk result (MayEnd how.now.dry_run how.now.exit_code) }
-{
-    match how.release {
-        Some(release) => publish_release(rt, out, err, outcome, group, how, release),
-        None => publish_folder(rt, out, err, outcome, group, how),
-    }
-}
-
 /// The folder, held while it is published; a dry run holds nothing.
 fn held<R: Files<File = File> + AllocGlobal>(
     rt: &R,
@@ -220,6 +95,93 @@ fn held<R: Files<File = File> + AllocGlobal>(
         return Ok(None);
     }
     Ok(Some(hold(rt, how.folder)?))
+}
+
+/// What a folder is published by: the system, the writers, and the group that it goes to. What it came to is
+/// kept in the outcome.
+#[derive(Drop)]
+struct Publishing<'a, R, W, E> {
+    rt: &'a R,
+    out: &'a mut W,
+    err: &'a mut E,
+    outcome: &'a mut Outcome,
+    group: &'a mut Group,
+    how: &'a PublishWord<'a>,
+}
+
+impl<
+    R: Files + Net<Stream = TcpStream> + Clock + RandomSource + AllocGlobal + Clone + Drop,
+    W: Write,
+    E: Write,
+> Publishing<'_, R, W, E> {
+    /// Publishes texts, or tells what would be.
+    fn publish_wanted(&mut self, mut ledger: Ledger, wanted: &[&str]) -> Result<Ending, EditorFault>
+        ensures { IfOk result (MayEnd self.old.how.now.dry_run self.old.how.now.exit_code) }
+    {
+        let how = self.how;
+        let mut publisher = Publisher {
+            rt: self.rt,
+            err: self.err,
+            outcome: self.outcome,
+            group: self.group,
+            ledger: &mut ledger,
+            how,
+        };
+        if how.dry_run {
+            let found = publisher.tell_plan(self.out, wanted)?;
+            return Ok(Ending::of_dry_run(found, how.exit_code));
+        }
+        Ok(Ending::of(publisher.publish(self.out, wanted)?))
+    }
+
+    /// Publishes a folder without a fault.
+    fn publish_clean(&mut self, clean: &Clean) -> Result<Ending, EditorFault>
+        ensures { IfOk result (MayEnd self.old.how.now.dry_run self.old.how.now.exit_code) }
+    {
+        let (alloc, how) = (self.rt.alloc(), self.how);
+        if clean.pages.is_empty() {
+            tell_no_page(alloc, self.err, how.folder)?;
+            return Ok(Ending::Bad);
+        }
+        let wanted = texts_of(alloc, &clean.folder)?;
+        let ledger = ledger_of(self.rt, how.folder, how.editor)?;
+        self.publish_wanted(ledger, &wanted)
+    }
+
+    /// Reads a folder, and publishes it where it has no fault.
+    fn publish_folder(&mut self) -> Result<Ending, EditorFault>
+        ensures { IfOk result (MayEnd self.old.how.now.dry_run self.old.how.now.exit_code) }
+    {
+        let (alloc, how) = (self.rt.alloc(), self.how);
+        let read = read_folder(self.rt, how.folder, how.ignore)?;
+        keep_findings(alloc, self.outcome, &read)?;
+        match clean_of(alloc, self.err, how.folder, read)? {
+            Some(clean) => self.publish_clean(&clean),
+            None => Ok(Ending::Bad),
+        }
+    }
+
+    /// Publishes a release of a folder's history once more. The folder's files stay as they are.
+    fn publish_release(&mut self, release: u64) -> Result<Ending, EditorFault>
+        ensures { IfOk result (MayEnd self.old.how.now.dry_run self.old.how.now.exit_code) }
+    {
+        let (alloc, how) = (self.rt.alloc(), self.how);
+        let ledger = ledger_there(self.rt, how)?;
+        let texts = release_texts(alloc, how.folder, &ledger, release)?;
+        let wanted = lent(alloc, &texts)?;
+        tell_disk(self.rt, self.err, self.outcome, how, release, &wanted)?;
+        self.publish_wanted(ledger, &wanted)
+    }
+
+    /// Publishes what is to become the next release.
+    fn publish_next(&mut self) -> Result<Ending, EditorFault>
+        ensures { IfOk result (MayEnd self.old.how.now.dry_run self.old.how.now.exit_code) }
+    {
+        match self.how.release {
+            Some(release) => self.publish_release(release),
+            None => self.publish_folder(),
+        }
+    }
 }
 
 /// Publishes a folder to the nodes of these URLs, which have the logins that the word names a file of, and
@@ -252,7 +214,15 @@ pub fn publish<
     }
     let mut group = Group::of(rt.alloc(), urls)?;
     let held = held(rt, how)?;
-    let ending = publish_next(rt, out, err, outcome, &mut group, how)?;
+    let ending = Publishing {
+        rt,
+        out,
+        err,
+        outcome,
+        group: &mut group,
+        how,
+    }
+    .publish_next()?;
     drop(held);
     Ok(ending.status())
 }
