@@ -32,6 +32,8 @@ abbrev pub IsVotedFor : Option Vote → BallotOf → List ℕ → Type 0
 IsVotedFor None b v = ⊥
 IsVotedFor (Some vote) b v = (vote.ballot ≡ b) × (vote.value ≡ v)
 
+-- ---- for the code: agreement does not need it
+
 -- a prepare is promised if there is no promise, or a lower one. A prepare at the promised ballot is promised
 -- again, unless the last vote is at that ballot: then it is ignored. A prepare below the promise is refused
 abbrev pub JudgesPrepare : Slot → BallotOf → PrepareVerdict → Type 0

@@ -51,6 +51,8 @@ Steps s (proposal b v) after no_answer =
 Steps s (proposal b v) after (nack c) = IsRefused s b c × (after ≡ s)
 Steps s (proposal b v) after (promise prior) = ⊥
 
+-- ---- for the code: agreement does not need it
+
 -- the new slot and the answer that a verdict leads to
 abbrev pub after_prepare : Slot → BallotOf → PrepareVerdict → Slot
 after_prepare s b to_prepare.Promise = with_promise s b

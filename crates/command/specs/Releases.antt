@@ -18,6 +18,8 @@ through [] n = []
 through (o ∷ later) zero = []
 through (o ∷ later) (suc n) = o ∷ through later (if is_release o.action then n else suc n)
 
+-- ---- for the code: agreement does not need it
+
 -- the shortest prefix of the commands with n releases
 pub record IsShortest (n : ℕ) (orders beginning : List Order) : Type 0 where
   pub begins : (rest : List Order) × (orders ≡ beginning ++ rest)

@@ -53,20 +53,6 @@ learned_at i (Voted j b v ∷ es) = learned_at i es
 learned_at i (Learned j v ∷ es) = if nat_eq j i then Some v else learned_at i es
 learned_at i (Floor f ∷ es) = learned_at i es
 
--- the round that an entry records or promises, or 0 if it does neither
-abbrev pub round_in : Entry → ℕ
-round_in (Round r) = r
-round_in (Promised i b) = b.round
-round_in (PromisedSpan i k b) = b.round
-round_in (Voted i b v) = b.round
-round_in (Learned i v) = 0
-round_in (Floor f) = 0
-
--- the greatest round that the entries record or promise, or 0 if there are none
-abbrev pub greatest_round : List Entry → ℕ
-greatest_round [] = 0
-greatest_round (e ∷ es) = max (round_in e) (greatest_round es)
-
 -- The floor of a record that took the place of a lost one: of instances up to it nobody knows what the lost
 -- record promised and voted for. It is the first entry. 0 if the first entry is another, or there is none
 abbrev pub floor_of : List Entry → ℕ
@@ -117,3 +103,19 @@ promise_of i k b = if nat_eq k 1 then Promised i b else PromisedSpan i k b
 abbrev pub with_entry : List Entry → Option Entry → List Entry
 with_entry es None = es
 with_entry es (Some e) = es ++ e ∷ []
+
+-- ---- for the code: agreement does not need it
+
+-- the round that an entry records or promises, or 0 if it does neither
+abbrev pub round_in : Entry → ℕ
+round_in (Round r) = r
+round_in (Promised i b) = b.round
+round_in (PromisedSpan i k b) = b.round
+round_in (Voted i b v) = b.round
+round_in (Learned i v) = 0
+round_in (Floor f) = 0
+
+-- the greatest round that the entries record or promise, or 0 if there are none
+abbrev pub greatest_round : List Entry → ℕ
+greatest_round [] = 0
+greatest_round (e ∷ es) = max (round_in e) (greatest_round es)

@@ -8,6 +8,8 @@ use Rattle.durable.specs.Standing.{StandsFor}
 abbrev pub Settles : List Entry → Option Entry → List Entry → Type 0
 Settles entries in_flight found = (found ≡ entries) ⊎ (found ≡ with_entry entries in_flight)
 
+-- ---- for the code: agreement does not need it
+
 -- the file stands for the entries, with the one in flight or without it
 abbrev pub IsFound : ℕ → ℕ → List Entry → Option Entry → List ℕ → Type 0
 IsFound node cluster entries in_flight file = (found : List Entry) × Settles entries in_flight found

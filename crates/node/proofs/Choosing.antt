@@ -242,9 +242,6 @@ untried_both s (u ∷ us) vs xs ys a b = ⊎_elim
 pub one_untried : (s : Node) (v : Value) → ¬ IsTried s v → AreUntried s (v ∷ []) (v ∷ [])
 one_untried s v untried = inr (untried, ([], refl, refl))
 
-one_tried : (s : Node) (v : Value) → IsTried s v → AreUntried s (v ∷ []) []
-one_tried s v tried = inl (tried, refl)
-
 -- one value more is looked at
 pub untried_more : (s : Node) (n : ℕ) (v : Value) (before after : List Value) → slice_get s.pending n ≡ Some v → AreUntried s (take n s.pending) before → PushesUntried s.attempts v before after → AreUntried s (take (n + 1) s.pending) after
 untried_more s n v before after got are pushes =

@@ -1,5 +1,5 @@
 -- What a node keeps of what it learned, proved.
-use Rattle.std.proofs.Common.{◌≡◌, ◌⊎◌, ⊎_elim, ℕ, Option, Some, None, refl, sym, ap, subst, ◌∙◌}
+use Rattle.std.proofs.Common.{◌≡◌, ⊎_elim, ℕ, Option, Some, None, refl, sym, ap, subst, ◌∙◌}
 use Rattle.durable.specs.Entries.{Learned, learned_at}
 use Rattle.durable.specs.Histories.{IsHistory}
 use Rattle.durable.proofs.Push.{learned_at-new, history-push}

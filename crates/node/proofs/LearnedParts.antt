@@ -99,19 +99,6 @@ module _ {D : Type 0} where
     reached = learns.reached ∙ parts.reached;
   }
 
-  -- nothing was learned: only what is known may have changed its room
-  pub same_parts : (old new : Running D) (s : Node) → KeepsOthers old new → new.store ≡ old.store → new.reached ≡ old.reached → new.proposer ≡ old.proposer → new.learner ≡ old.learner → new.queue ≡ old.queue
-      → ((published : List Value) (known : ℕ → Option Value) → AreKnown old.known published known → AreKnown new.known published known) → HasParts old s → HasParts new s
-  same_parts old new s others store reached proposer learner queue known parts = record {
-    on_record = same_record old new s s others (same_store old.store new.store store) refl refl refl parts.on_record;
-    votes = λ t. subst (λ l. IsTold l t ↔ In s.votes t) (sym learner) (parts.votes t);
-    known = subst (λ vs. AreKnown new.known vs s.known) (sym others.releases) (known old.releases s.known parts.known);
-    attempts = subst (λ p. Attempting p s.attempts) (sym proposer) parts.attempts;
-    pending = subst (λ q. AreWaiting q.items.items s.pending) (sym queue) parts.pending;
-    heard = ap (λ p. p.heard) proposer ∙ parts.heard;
-    reached = reached ∙ parts.reached;
-  }
-
   -- ---- a vote, and a chosen value, that were delivered
 
   -- a value became known, and then its instance was counted

@@ -1,5 +1,5 @@
 -- A node whose file grows.
-use Rattle.std.proofs.Common.{◌≡◌, ℕ, inl, ⊎_elim, Bool, IsTrue, Option, None, false, List, [], if◌then◌else◌, refl, sym, ◌∙◌, ap, subst}
+use Rattle.std.proofs.Common.{◌≡◌, ℕ, inl, ⊎_elim, Bool, IsTrue, Option, None, false, List, [], if◌then◌else◌, sym, ◌∙◌, ap, subst}
 use Rattle.site_disk.specs.Model.{DiskState, LeavesOnly}
 use Rattle.durable.specs.Batches.{IsNoneOrAll, KeepsNoneOrAll}
 use Rattle.durable.specs.Entries.{Entry}

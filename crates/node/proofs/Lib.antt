@@ -19,6 +19,7 @@ pub mod Lengthening
 pub mod DeviceCounts
 pub mod Opening
 pub mod Muting
+pub mod Handling
 pub mod Preparing
 pub mod Judging
 pub mod KnownValues

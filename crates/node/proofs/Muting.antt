@@ -1,5 +1,5 @@
 -- A node that is mute: by the test for it, and its tick, which asks instead.
-use Rattle.std.proofs.Common.{◌≡◌, inl, inr, ℕ, Bool, true, false, Some, None, refl, sym, ap, subst, ◌∙◌}
+use Rattle.std.proofs.Common.{◌≡◌, inl, inr, ℕ, Bool, true, false, Some, None, sym, ap, subst, ◌∙◌}
 use Rattle.std.specs.Prelude.{◌↔◌, IsTrue, Option}
 use Rattle.site_disk.specs.Model.{DiskState}
 use Rattle.durable.specs.Entries.{Entry}

@@ -1,7 +1,7 @@
 -- What a prepare and a proposal do at a node, by the verdicts on them.
 use Rattle.std.proofs.Common.{◌≡◌, ◌≢◌, inl, inr, ℕ, Bool, true, false, Some, None, [], refl, sym, subst, ◌∙◌}
 use Rattle.site_ids.specs.Ids.{BallotOf}
-use Rattle.site_ids.specs.Spans.{IsInSpan, last_of}
+use Rattle.site_ids.specs.Spans.{IsInSpan}
 use Rattle.acceptor.specs.declared.slot.Slot.{Slot}
 use Rattle.acceptor.specs.declared.judging.ProposeVerdict.{ProposeVerdict}
 use Rattle.acceptor.specs.declared.judging.ProposeVerdict.TheVariants as to_proposal
@@ -20,7 +20,7 @@ use Rattle.node.specs.Judgements.{Rises, IsJudgement, IsOwed}
 use Rattle.node.specs.Standing.{IsNodeOf}
 use Rattle.node.proofs.Judging.{judged_by, rising, free_owed, owed_in}
 use Rattle.node.proofs.Muting.{Speaks}
-use Rattle.node.proofs.Stepping.{touched}
+use Rattle.node.proofs.Handling.{touched}
 use Rattle.node.proofs.Verdicts.{proposes, proposal_effect}
 
 refuses : (c : BallotOf) → nack c ≡ no_answer → ⊥
@@ -71,7 +71,7 @@ module _ {D : Type 0} (old : Running D) where
 
       -- it goes on record if it rises, and only then
       pub prepare_rises : (from : ℕ) → Speaks old i → told.rises ≡ true → (s : Node) → IsNodeOf old s
-          → Does old.cluster old.me s (deliver (Prepare from i b k)) (record { entry = Some (promise_of i k b); after = touched (last_of i k) s; out = span_out old.me i b is.judged })
+          → Does old.cluster old.me s (deliver (Prepare from i b k)) (record { entry = Some (promise_of i k b); after = touched (Prepare from i b k) s; out = span_out old.me i b is.judged })
       prepare_rises from speaks rises s stands = inr (
         speaks s stands,
         record {
@@ -85,7 +85,7 @@ module _ {D : Type 0} (old : Running D) where
       )
 
       pub prepare_stays : (from : ℕ) → Speaks old i → told.rises ≡ false → (s : Node) → IsNodeOf old s
-          → Does old.cluster old.me s (deliver (Prepare from i b k)) (record { entry = None; after = touched (last_of i k) s; out = span_out old.me i b is.judged })
+          → Does old.cluster old.me s (deliver (Prepare from i b k)) (record { entry = None; after = touched (Prepare from i b k) s; out = span_out old.me i b is.judged })
       prepare_stays from speaks rises s stands = inr (
         speaks s stands,
         record {
@@ -105,8 +105,8 @@ module _ {D : Type 0} (old : Running D) where
     on_record s stands = subst (λ (x : Slot). IsSlot s.entries i x) (sym is) (stands.parts.on_record.kept.slots i)
 
     pub propose_does : (from : ℕ) (b : BallotOf) (v : Value) (verdict : ProposeVerdict) → JudgesProposal slot b v verdict → (s : Node) → IsNodeOf old s
-        → Does old.cluster old.me s (deliver (Propose from i b v)) (proposal_effect old.me (touched i s) i b v verdict)
-    propose_does from b v verdict judged s stands = inr (speaks s stands, proposes old.me (touched i s) i b v slot verdict (on_record s stands) judged)
+        → Does old.cluster old.me s (deliver (Propose from i b v)) (proposal_effect old.me (touched (Propose from i b v) s) i b v verdict)
+    propose_does from b v verdict judged s stands = inr (speaks s stands, proposes old.me (touched (Propose from i b v) s) i b v slot verdict (on_record s stands) judged)
 
     pub proposal_takes : (b : BallotOf) (v : Value) (verdict : ProposeVerdict) → JudgesProposal slot b v verdict → verdict ≢ to_proposal.Silent → (s : Node) → IsNodeOf old s → (¬ IsMute s i) × IsAnswered s i (proposal b v)
     proposal_takes b v verdict judged some s stands = (speaks s stands, answers_proposal s i b v slot verdict (on_record s stands) judged some)

@@ -1,5 +1,5 @@
 -- A promise that is delivered, by the proposer's step.
-use Rattle.std.proofs.Common.{◌≡◌, ℕ, max, false, Option, Some, None, Ok, Err, [], ◌∷◌, ◌++◌, refl, sym, ap, subst, ◌∙◌}
+use Rattle.std.proofs.Common.{◌≡◌, ℕ, false, Option, Some, None, Ok, Err, [], ◌∷◌, ◌++◌, refl, sym, ap, subst, ◌∙◌}
 use Rattle.site_disk.specs.Model.{DiskState}
 use Rattle.std.specs.Prelude.{◌↔◌}
 use Rattle.site_ids.specs.Ids.{BallotOf}
@@ -21,10 +21,10 @@ use Rattle.node.specs.Nodes.{Value, Node}
 use Rattle.node.specs.Waiting.{AreWaiting}
 use Rattle.node.specs.declared.queue.Queue.{Queue}
 use Rattle.node.specs.Calls.{deliver}
-use Rattle.node.specs.Deliveries.{promise_out}
-use Rattle.node.specs.Endings.{Whole}
-use Rattle.node.specs.Standing.{IsEvent, KeepsOthers}
-use Rattle.node.proofs.Stepping.{Handed, whole, touched, same_store, same_record, stays_there}
+use Rattle.node.specs.Deliveries.{promise_out, reached_by}
+use Rattle.node.specs.Standing.{KeepsOthers, TakesCall}
+use Rattle.node.proofs.Handling.{handled, touched}
+use Rattle.node.proofs.Stepping.{Handed, same_store, same_record, stays_there}
 
 -- a step in which an allocation fails leaves the attempts as they are
 pub attempts_stay : (n : ℕ) (attempts : ℕ → Option Attempt) (q i : ℕ) (b : BallotOf) (prior : Option Vote) (e : ProposerFault) (new : Proposer) → Promised n attempts q i b prior (Err e) new → Attempting new attempts
@@ -50,17 +50,17 @@ module _ (old new : Proposer) (n q i : ℕ) (b : BallotOf) (prior : Option Vote)
       → promise_out p i b (Some proposal.value) ≡ (All, Propose p proposal.instance proposal.ballot proposal.value) ∷ []
   proposal_out p proposal is attempts are = let at = at_proposal proposal is attempts are in let instance = sym at.0 in let ballot = sym at.1 in λ k. (All, Propose p (instance k) (ballot k) proposal.value) ∷ []
 
-module _ {D : Type 0} (stands_for : D → DiskState → Type 0) where
+module _ {D : Type 0} (stands_for : D → DiskState → Type 0) (failed : D → ℕ) where
   pub promise_whole : (old new : Running D) (q i : ℕ) (b : BallotOf) (prior : Option Vote) (proposed : Option Value) (before after out : Handed) → KeepsOthers old new → old.store.stopped ≡ false
-      → IsMessage old.cluster (Promise q i b prior) → new.store ≡ old.store → new.learner ≡ old.learner → new.known ≡ old.known → new.queue ≡ old.queue → new.proposer.heard ≡ old.proposer.heard → new.reached ≡ max old.reached i
+      → IsMessage old.cluster (Promise q i b prior) → new.store ≡ old.store → new.learner ≡ old.learner → new.known ≡ old.known → new.queue ≡ old.queue → new.proposer.heard ≡ old.proposer.heard → new.reached ≡ reached_by old.reached (Promise q i b prior)
       → StepsTo old.proposer new.proposer old.cluster q i b prior proposed → after ≡ before ++ out → ((attempts : ℕ → Option Attempt) → Attempting old.proposer attempts → promise_out old.me i b proposed ≡ out)
-      → IsEvent stands_for old new (deliver (Promise q i b prior)) Whole before after
+      → TakesCall stands_for failed old new (deliver (Promise q i b prior)) (Ok (tt {0})) before after
   promise_whole old new q i b prior proposed before after out others runs in_range store learner known queue heard reached steps told same =
       let seems = same_store old.store new.store store in
-      whole stands_for old new (deliver (Promise q i b prior)) before after out others runs in_range told (λ s stands.
+      handled stands_for failed old new (Promise q i b prior) before after out others runs in_range store told (λ s stands.
       let parts = stands.parts in
       let how = steps.step s.attempts parts.attempts in
-      let t : Node = record (touched i s) { attempts = how.0 } in
+      let t : Node = record (touched (Promise q i b prior) s) { attempts = how.0 } in
       record {
         effect = record { entry = None; after = t; out = promise_out old.me i b proposed };
         does = record { attempts = how.0; proposed = proposed; step = how.1; is = refl };
@@ -72,7 +72,7 @@ module _ {D : Type 0} (stands_for : D → DiskState → Type 0) where
           attempts = how.2;
           pending = subst (λ (q : Queue). AreWaiting q.items.items s.pending) (sym queue) parts.pending;
           heard = heard ∙ parts.heard;
-          reached = reached ∙ ap (λ r. max r i) parts.reached;
+          reached = reached ∙ ap (λ r. reached_by r (Promise q i b prior)) parts.reached;
         };
         stays = stays_there stands_for old new s t others seems refl refl;
       })

@@ -1,11 +1,10 @@
 -- The three endings of a call, from what the code did.
-use Rattle.std.proofs.Common.{◌≡◌, ℕ, max, true, false, cond, ◌⊎◌, inl, inr, ⊎_elim, Result, Ok, Err, Option, Some, None, List, [], ◌∷◌, ◌++◌, length, refl, sym, ap, subst, ◌∙◌, append-nil, append_assoc, arith, length-append}
+use Rattle.std.proofs.Common.{◌≡◌, ℕ, true, false, cond, ◌⊎◌, inl, inr, ⊎_elim, Result, Ok, Err, Option, Some, None, List, [], ◌∷◌, ◌++◌, refl, sym, ap, subst, ◌∙◌, append-nil, append_assoc, arith}
 use Rattle.std.specs.Prelude.{◌↔◌, IsErrOf}
 use Rattle.std.specs.Result.{IsErrAnd}
 use Rattle.site_disk.specs.Model.{DiskState}
 use Rattle.site_ids.specs.Lists.{In}
 use Rattle.wire.specs.declared.message.Message.{Message}
-use Rattle.wire.specs.Messages.{IsMessage}
 use Rattle.durable.specs.Entries.{Entry}
 use Rattle.durable.specs.Histories.{MayFollow, IsHistory}
 use Rattle.durable.specs.Keeping.{IsFound, Keeps}
@@ -32,9 +31,9 @@ use Rattle.node.specs.declared.queue.Queue.{Queue}
 use Rattle.node.specs.declared.node.Node.{Node as Running}
 use Rattle.node.specs.declared.to.To.{To}
 use Rattle.node.specs.Nodes.{Value, Up, Stopped, Node, BeginsKnown}
-use Rattle.node.specs.Calls.{Call, deliver, Does}
+use Rattle.node.specs.Calls.{Call, Does}
 use Rattle.node.specs.Effects.{Effect, recorded}
-use Rattle.node.specs.Endings.{Ending, Whole, Refused, Failed, Ends, EndsWhole, EndsRefused, EndsFailed, TakesRoom, Refuses}
+use Rattle.node.specs.Endings.{Ending, Whole, Refused, Failed, Ends, EndsWhole, EndsRefused, EndsFailed, Refuses}
 use Rattle.node.specs.Faults.{of_record}
 use Rattle.node.specs.Ahead.{StaysAhead}
 use Rattle.node.specs.Ranges.{HasRanges, IsCallInRange}
@@ -57,10 +56,6 @@ off e = cc
 
 inside : (x y : RecordFault) → ◌≡◌ {A = Result (Unit {0}) RecordFault} (Err x) (Err y) → x ≡ y
 inside x y e = cc
-
--- a message about the instance counts for wanting a tick
-abbrev pub touched : ℕ → Node → Node
-touched i s = record s { reached = max s.reached i }
 
 module _ {D : Type 0} where
   -- ---- a node that runs
@@ -288,18 +283,37 @@ module _ {D : Type 0} where
     refused_stopped old call before in_range stops =
         refused old old call fault.Stopped before before (record { me = refl; cluster = refl; releases = refl }) in_range refl (λ s stands. is_down old s stands.parts stops) (same_store old.store old.store refl) (λ s parts. parts)
 
+    -- another value of the same parts stands for the same nodes
+    pub carried : (old new now : Running D) (call : Call) (ending : Ending) (before after : Handed) → KeepsOthers new now → now.store ≡ new.store → KeepsRest new now → now.reached ≡ new.reached
+        → IsEvent stands_for old new call ending before after → IsEvent stands_for old now call ending before after
+    carried old new now call ending before after others store rest reached event = record {
+      leads = λ s stands.
+          let led = event.leads s stands in
+          let seems = same_store new.store now.store store in
+          record {
+            next = led.next;
+            out = led.out;
+            ends = led.ends;
+            stands = record {
+              parts = unmoved new now led.next others store rest reached led.stands.parts;
+              tidy = led.stands.tidy;
+              ranges = subst (λ (n : ℕ). HasRanges n led.next) (sym others.cluster) led.stands.ranges;
+              fed = subst (λ (vs : List Value). BeginsKnown vs led.next) (sym others.releases) led.stands.fed;
+            };
+            on_disk = λ d on. let there = led.on_disk d on in (there.0, still_on_disk new now led.next led.next there.0 others seems refl refl there.1, there.2);
+            ahead = λ t d of. stays_ahead new now led.next led.next seems refl refl t d (led.ahead t d of);
+            outbox = led.outbox;
+            few = led.few;
+            messages = led.messages;
+          };
+    }
+
     -- want of memory, by the fault that was made of another
     pub wants_memory : {T : Type 0} (old new : Running D) (call : Call) (r : Result T NodeFault) (before after : Handed) → KeepsOthers old new → IsCallInRange old.cluster call → after ≡ before
         → IsErrAnd r (λ y. y ≡ fault.OutOfMemory) → ((s : Node) → IsNodeOf old s → Refuses s call fault.OutOfMemory) → SeemsSame old.store new.store → ((s : Node) → HasParts old s → HasParts new s)
         → IsEvent stands_for old new call (ending_of r) before after
     wants_memory old new call r before after others in_range told is why store same =
         subst (λ ending. IsEvent stands_for old new call ending before after) (sym (ending_err r fault.OutOfMemory is)) (refused old new call fault.OutOfMemory before after others in_range told why store same)
-
-    -- so of a message that may take room
-    pub delivery_wants : {T : Type 0} (old new : Running D) (m : Message) (r : Result T NodeFault) (before after : Handed) → KeepsOthers old new → old.store.stopped ≡ false → IsMessage old.cluster m
-        → ((s : Node) → IsNodeOf old s → TakesRoom s m) → after ≡ before → IsErrAnd r (λ y. y ≡ fault.OutOfMemory) → new.store ≡ old.store → KeepsRest old new → new.reached ≡ old.reached → IsEvent stands_for old new (deliver m) (ending_of r) before after
-    delivery_wants old new m r before after others runs in_range takes told is store rest reached =
-        wants_memory old new (deliver m) r before after others in_range told is (λ s stands. (is_up old s stands.parts runs, takes s stands)) (same_store old.store new.store store) (λ s parts. unmoved old new s others store rest reached parts)
 
     -- ---- a put
 
@@ -422,24 +436,6 @@ module _ {D : Type 0} where
                     }) (told ∙ sym (append-nil before));
               })
 
-    -- ---- a message that counts for wanting a tick
-
-    -- an entry is on record, and then the messages are handed out
-    pub put_whole : (failed : D → ℕ) (old new : Running D) (call : Call) (entry : Entry) (i : ℕ) (before after wanted out : Handed) → KeepsOthers old new → old.store.stopped ≡ false → IsCallInRange old.cluster call → KeepsRest old new
-        → new.reached ≡ max old.reached i → Puts stands_for failed old.store new.store entry (Ok tt) → after ≡ before ++ out → wanted ≡ out
-        → ((s : Node) → IsNodeOf old s → Does old.cluster old.me s call (record { entry = Some entry; after = touched i s; out = wanted }))
-        → IsEvent stands_for old new call Whole before after
-    put_whole failed old new call entry i before after wanted out others runs in_range rest reached puts told same does =
-        whole old new call before after out others runs in_range told (λ s stands.
-        let t : Node = record s { entries = s.entries ++ entry ∷ []; reached = max s.reached i } in
-        record {
-          effect = record { entry = Some entry; after = touched i s; out = wanted };
-          does = does s stands;
-          handed = same;
-          parts = rest_with old new s t others stands.parts rest (put_record failed old new entry others runs s stands.parts puts.put) (λ k. record t { reached = (sym (reached ∙ ap (λ r. max r i) stands.parts.reached)) k });
-          stays = put_stays failed old new entry others runs s t stands.parts puts.acknowledged (λ open_now. (puts.batched open_now).ahead) refl refl;
-        })
-
     -- an entry is on record, and nothing else changes
     pub put_alone : (failed : D → ℕ) (old new : Running D) (call : Call) (entry : Entry) (before : Handed) → KeepsOthers old new → old.store.stopped ≡ false → IsCallInRange old.cluster call → KeepsRest old new
         → new.reached ≡ old.reached → Puts stands_for failed old.store new.store entry (Ok tt)
@@ -454,21 +450,4 @@ module _ {D : Type 0} where
           handed = refl;
           parts = rest_with old new s t others stands.parts rest (put_record failed old new entry others runs s stands.parts puts.put) (λ k. record t { reached = (sym (reached ∙ stands.parts.reached)) k });
           stays = put_stays failed old new entry others runs s t stands.parts puts.acknowledged (λ open_now. (puts.batched open_now).ahead) refl refl;
-        })
-
-    -- nothing goes on record
-    pub quiet_whole : (old new : Running D) (call : Call) (i : ℕ) (before after wanted out : Handed) → KeepsOthers old new → old.store.stopped ≡ false → IsCallInRange old.cluster call → new.store ≡ old.store → KeepsRest old new
-        → new.reached ≡ max old.reached i → after ≡ before ++ out → wanted ≡ out
-        → ((s : Node) → IsNodeOf old s → Does old.cluster old.me s call (record { entry = None; after = touched i s; out = wanted }))
-        → IsEvent stands_for old new call Whole before after
-    quiet_whole old new call i before after wanted out others runs in_range store rest reached told same does =
-        let seems = same_store old.store new.store store in
-        whole old new call before after out others runs in_range told (λ s stands.
-        let t : Node = touched i s in
-        record {
-          effect = record { entry = None; after = t; out = wanted };
-          does = does s stands;
-          handed = same;
-          parts = rest_with old new s t others stands.parts rest (same_record old new s t others seems refl refl refl stands.parts.on_record) (λ k. record t { reached = (sym (reached ∙ ap (λ r. max r i) stands.parts.reached)) k });
-          stays = stays_there old new s t others seems refl refl;
         })

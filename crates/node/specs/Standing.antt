@@ -21,7 +21,8 @@ use Rattle.node.specs.declared.to.To.{To}
 use Rattle.node.specs.declared.node.Node.{Node as Running}
 use Rattle.node.specs.Ahead.{StaysAhead}
 use Rattle.node.specs.Nodes.{Mode, Up, Stopped, Node, opened, BeginsKnown}
-use Rattle.node.specs.Calls.{Call}
+use Rattle.node.specs.Calls.{Call, deliver}
+use Rattle.node.specs.Deliveries.{reached_by}
 use Rattle.node.specs.Endings.{Ending, Whole, Refused, Failed, Ends}
 use Rattle.node.specs.Knowing.{AreKnown}
 use Rattle.node.specs.Ranges.{HasRanges}
@@ -141,6 +142,27 @@ pub record TakesRound {D : Type 0} (old new : Running D) : Type 0 where
 pub record CountsDevice {T : Type 0} (result : Result T NodeFault) (before now : ℕ) : Type 0 where
   pub counted : IsErrOf result fault.Device → (before < now) ⊎ (before ≡ 2 ^ 64 - 1)
   pub none : ¬ IsErrOf result fault.Device → now ≡ before
+
+-- what a call does: it is this event, as its result says; its failures are counted; it only adds messages;
+-- and the node stays the same node
+pub record TakesCall {D T : Type 0} (stands_for : D → DiskState → Type 0) (failed : D → ℕ)
+    (old new : Running D) (call : Call) (result : Result T NodeFault)
+    (before after : List (To × Message)) : Type 0 where
+  pub event : IsEvent stands_for old new call (ending_of result) before after
+  pub counts : CountsDevice result (failed old.store.disk) (failed new.store.disk)
+  pub grows : OnlyGrows before after
+  pub others : KeepsOthers old new
+
+-- once a message was handled, it counts towards wanting a tick, unless it ended by a fault
+abbrev pub counted : {D : Type 0} → Running D → Message → Result (Unit {0}) NodeFault → Running D → Running D
+counted old m (Ok x) new = record new { reached = reached_by old.reached m }
+counted old m (Err cause) new = new
+
+-- a message of the cluster was handled but not counted: with the count, this is its delivery
+abbrev pub IsHandled : {D : Type 0} → (D → DiskState → Type 0) → (D → ℕ) → Running D → Running D → Message
+    → Result (Unit {0}) NodeFault → List (To × Message) → List (To × Message) → Type 0
+IsHandled stands_for failed old new m result before after = IsMessage old.cluster m
+    → TakesCall stands_for failed old (counted old m result new) (deliver m) result before after
 
 -- ---- opening
 

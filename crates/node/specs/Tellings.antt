@@ -61,6 +61,15 @@ fitting room (m ∷ ms) =
 abbrev pub told_from : ℕ → Node → ℕ → List Message
 told_from p s i = fitting MAX_TOLD_BYTES (tellings p s MAX_TOLD i)
 
+abbrev pub addressed : To → Message → To × Message
+addressed to m = (to, m)
+
+-- the node reports that, and nothing else happens
+abbrev pub tells : ℕ → Node → To → ℕ → Effect
+tells p s to i = record { entry = None; after = s; out = map (addressed to) (told_from p s i) }
+
+-- ---- for the code: agreement does not need it
+
 abbrev pub value_size : Option Value → Option Vote → ℕ
 value_size (Some v) vote = length v
 value_size None (Some vote) = length vote.value
@@ -81,9 +90,6 @@ covered room s (suc k) i =
 abbrev pub covered_from : Node → ℕ → ℕ
 covered_from s i = covered MAX_TOLD_BYTES s MAX_TOLD i
 
-abbrev pub addressed : To → Message → To × Message
-addressed to m = (to, m)
-
 -- What is reported of instance i is put after the messages that are there. `Some left`: it fit, and this much
 -- room is left for the instances after i. `None`: there was not enough room, and nothing more is reported
 abbrev pub TellsOn : ℕ → Node → To → ℕ → ℕ → List (To × Message) → List (To × Message) → Option ℕ → Type 0
@@ -92,7 +98,3 @@ TellsOn p s to i room before after None = (later : List Message)
 TellsOn p s to i room before after (Some left) = (later : List Message)
     → before ++ map (addressed to) (fitting room (with_first (telling p s i) later))
     ≡ after ++ map (addressed to) (fitting left later)
-
--- the node reports that, and nothing else happens
-abbrev pub tells : ℕ → Node → To → ℕ → Effect
-tells p s to i = record { entry = None; after = s; out = map (addressed to) (told_from p s i) }

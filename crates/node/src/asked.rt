@@ -1,7 +1,6 @@
 //! A question that is delivered.
 
-ghost use Rattle.std.specs.Prelude.{◌≡◌, IsErrOf, false};
-ghost use Rattle.wire.specs.Messages.{IsMessage};
+ghost use Rattle.std.specs.Prelude.{◌≡◌, false};
 
 use crate::{Node, NodeFault, Outbox, To};
 use site_disk::Disk;
@@ -9,8 +8,7 @@ use site_ids::{Instance, NodeId};
 use wire::Message;
 
 impl<D: Disk> Node<D> {
-    ghost use Rattle.node.specs.Calls.{deliver};
-    ghost use Rattle.node.specs.Standing.{IsEvent, OnlyGrows, KeepsOthers, ending_of};
+    ghost use Rattle.node.specs.Standing.{IsHandled};
 
     /// If the value is known, it goes to the node that asked.
     pub(crate) fn on_ask(
@@ -20,12 +18,8 @@ impl<D: Disk> Node<D> {
         outbox: &mut Outbox,
     ) -> Result<(), NodeFault>
         requires running { self.old.store.stopped ≡ false }
-        ensures event { IsMessage self.old.cluster (Message.Ask from instance)
-            → IsEvent D.stands_for self.old self.new (deliver (Message.Ask from instance))
-            (ending_of result) outbox.old.items outbox.new.items }
-        ensures no_put { (¬ IsErrOf result NodeFault.Device) × (self.new.store ≡ self.old.store) }
-        ensures grows { OnlyGrows outbox.old.items outbox.new.items }
-        ensures others { KeepsOthers self.old self.new }
+        ensures { IsHandled D.stands_for D.failed self.old self.new (Message.Ask from instance)
+            result outbox.old.items outbox.new.items }
     {
         let Some(value) = self.known.log.get(instance) else {
             return Ok(());

@@ -1,13 +1,12 @@
 //! A prepare that is delivered: each instance of its span is judged by itself.
 
-ghost use Rattle.std.specs.Prelude.{◌≡◌, ◌+◌, ◌-◌, ℕ, IfOk, OnOk, OnErr, IsErrOf, false};
+ghost use Rattle.std.specs.Prelude.{◌≡◌, ◌+◌, ◌-◌, ℕ, IfOk, OnOk, OnErr, false};
 ghost use Rattle.site_ids.specs.Ids.{IsNode};
 ghost use Rattle.site_ids.specs.Spans.{IsSpan, IsInSpan};
 ghost use Rattle.acceptor.specs.Judging.{IsFreeBelow};
 ghost use Rattle.durable.specs.Entries.{promise_of};
 ghost use Rattle.durable.specs.Puts.{Puts};
 ghost use Rattle.durable.specs.Slots.{slot_at};
-ghost use Rattle.wire.specs.Messages.{IsMessage};
 
 use crate::messages::{nack, promise};
 use crate::{Node, NodeFault, Outbox};
@@ -57,8 +56,7 @@ pub(crate) struct Judgement {
 }
 
 impl<D: Disk> Node<D> {
-    ghost use Rattle.node.specs.Calls.{deliver};
-    ghost use Rattle.node.specs.Standing.{IsEvent, OnlyGrows, KeepsOthers, CountsDevice, ending_of};
+    ghost use Rattle.node.specs.Standing.{IsHandled};
     ghost use Rattle.node.specs.Judgements.{IsJudgement, JudgesMore, IsOwed};
 
     /// A promise is on record before it is handed out. The promise of a span is one entry for the whole span,
@@ -74,28 +72,20 @@ impl<D: Disk> Node<D> {
         requires running { self.old.store.stopped ≡ false }
         requires of_cluster { IsNode self.old.cluster ballot.node }
         requires span { IsSpan first count }
-        ensures event { (from : ℕ) → IsMessage self.old.cluster (Message.Prepare from first ballot count)
-            → IsEvent D.stands_for self.old self.new (deliver (Message.Prepare from first ballot count))
-            (ending_of result) outbox.old.items outbox.new.items }
-        ensures counts { CountsDevice result (D.failed self.old.store.disk) (D.failed self.new.store.disk) }
-        ensures grows { OnlyGrows outbox.old.items outbox.new.items }
-        ensures others { KeepsOthers self.old self.new }
+        ensures { (from : ℕ) → IsHandled D.stands_for D.failed self.old self.new
+            (Message.Prepare from first ballot count) result outbox.old.items outbox.new.items }
     {
-        let reached = self.reached.max(first.number() + count as u32 - 1);
         if self.is_mute(first) {
-            self.reached = reached;
             return Ok(());
         }
         let mut judgement = self.judge_span(first, count, ballot)?;
         outbox.reserve(judgement.answers.len())?;
         if !judgement.rises {
             let _ = outbox.append(&mut judgement.answers);
-            self.reached = reached;
             return Ok(());
         }
         put_promises(&mut self.store, first, count, ballot)?;
         let _ = outbox.append(&mut judgement.answers);
-        self.reached = reached;
         Ok(())
     }
 

@@ -4,7 +4,7 @@
 //! A tick asks for a round that is left, so effect and RoundsUsedUp exclude each other; resent prepares are
 //! of one instance.
 
-ghost use Rattle.std.specs.Prelude.{◌≡◌, IfOk, IfErr};
+ghost use Rattle.std.specs.Prelude.{IfOk, IfErr};
 ghost use Rattle.node.specs.Beginning.{IsDue, IsRefusedBy};
 
 use crate::beginning::Beginning;

@@ -3,7 +3,7 @@
 //! Whether an attempt has a value is looked up among 64 attempts; a set would have to allocate. Each widening
 //! uses up a round, which bounds a drive.
 
-ghost use Rattle.std.specs.Prelude.{◌≡◌, ◌↔◌, ◌+◌, ◌<◌, ◌≤◌, ℕ, List, Option, None, Some, IfOk, IfErr};
+ghost use Rattle.std.specs.Prelude.{◌≡◌, ◌↔◌, ◌+◌, ◌<◌, ◌≤◌, ℕ, Option, None, Some, IfOk, IfErr};
 ghost use Rattle.std.specs.Prelude.{IfSome, OnOk, IsTrue, MatchOption, length, false};
 ghost use Rattle.site_ids.specs.Spans.{IsSpan};
 ghost use Rattle.node.specs.Beginning.{IsDue, IsRefusedBy};

@@ -73,6 +73,8 @@ released orders n path =
 abbrev pub answer : List (List ℕ) → ℕ → List ℕ → Option Page
 answer values n path = released (effective values) n path
 
+-- ---- for the code: agreement does not need it
+
 -- the release that is asked for, in a list of effective commands: the newest if none is named
 abbrev pub asked_of : List Order → Option ℕ → ℕ
 asked_of orders None = release_count orders

@@ -26,6 +26,8 @@ instance_of (Nack q i b c) = i
 instance_of (Ask q i) = i
 instance_of (Chosen q i v) = i
 
+-- ---- for the code: agreement does not need it
+
 -- kinds are numbered in this order
 abbrev pub kind_of : Message → ℕ
 kind_of (Prepare q i b k) = 1

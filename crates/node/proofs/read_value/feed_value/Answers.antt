@@ -1,4 +1,4 @@
-use Rattle.std.proofs.Common.{◌≡◌, ◌∷◌, [], ◌++◌, true, sym, subst}
+use Rattle.std.proofs.Common.{◌≡◌, true, sym, subst}
 use Rattle.std.specs.Prelude.{is_some}
 use Rattle.release.specs.Receipts.{receipt_of}
 use Rattle.node.proofs.Published.{fed_receipt}

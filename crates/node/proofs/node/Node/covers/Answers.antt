@@ -1,4 +1,4 @@
-use Rattle.std.proofs.Common.{◌≡◌, ◌+◌, ◌-◌, ℕ, refl, sym, ap, ◌∙◌, arith}
+use Rattle.std.proofs.Common.{◌≡◌, ◌+◌, ◌-◌, refl, sym, ap, ◌∙◌, arith}
 use Rattle.node.specs.Tellings.{covered, told_size}
 use Rattle.node.proofs.ToldAgain.{begun_covered, more_covered, all_covered}
 use Rattle.node.proofs.node.Node.covers.Goals as goal

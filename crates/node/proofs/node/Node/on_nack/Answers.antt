@@ -2,15 +2,15 @@ use Rattle.std.proofs.Common.{max, [], refl, sym, ap, subst, ◌∙◌, append-n
 use Rattle.proposer.specs.declared.proposer.Proposer.{Proposer}
 use Rattle.proposer.specs.Standing.{Attempting}
 use Rattle.wire.specs.declared.message.Message.TheVariants.{Nack}
-use Rattle.node.specs.Calls.{deliver}
 use Rattle.node.specs.Effects.{quiet}
-use Rattle.node.proofs.Stepping.{same_store, stays_there, whole}
+use Rattle.node.proofs.Handling.{handled}
+use Rattle.node.proofs.Stepping.{same_store, stays_there}
 use Rattle.node.proofs.node.Node.on_nack.Goals as goal
 
-pub returns-clause-event : goal.returns-clause-event
-returns-clause-event g c from instance asked before in_range =
+pub returns : goal.returns
+returns g c from instance asked before in_range =
     let old = c.args.self.now in
-    whole g.D.Disk.stands_for old _ (deliver (Nack from instance asked c.args.promised)) before before [] (record { me = refl; cluster = refl; releases = refl }) c.requires.running in_range (sym (append-nil before))
+    handled g.D.Disk.stands_for g.D.Disk.failed old _ (Nack from instance asked c.args.promised) before before [] (record { me = refl; cluster = refl; releases = refl }) c.requires.running in_range refl (sym (append-nil before))
     (λ s stands.
     let parts = stands.parts in
     record {

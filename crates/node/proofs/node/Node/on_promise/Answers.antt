@@ -1,4 +1,4 @@
-use Rattle.std.proofs.Common.{ℕ, max, Some, None, Ok, Option, [], ◌∷◌, ◌++◌, refl, sym, ap, subst, ◌∙◌, append-nil}
+use Rattle.std.proofs.Common.{Err, ℕ, Some, None, Ok, Option, [], ◌∷◌, ◌++◌, refl, sym, ap, subst, ◌∙◌, append-nil}
 use Rattle.wire.specs.declared.message.Message.TheVariants.{Promise, Propose}
 use Rattle.proposer.specs.Attempts.{Attempt}
 use Rattle.proposer.specs.Best.{vote_told}
@@ -7,15 +7,13 @@ use Rattle.proposer.specs.Standing.{Attempting, Promised}
 use Rattle.proposer.specs.declared.proposer.Proposal.{Proposal}
 use Rattle.node.specs.declared.fault.NodeFault.TheVariants.{OutOfMemory}
 use Rattle.node.specs.declared.to.To.TheVariants.{All}
-use Rattle.node.specs.Calls.{deliver}
 use Rattle.node.proofs.Promising.{attempts_stay, proposes_none, proposes_some, proposal_out, promise_whole}
-use Rattle.node.proofs.Stepping.{delivery_wants, Handed, is_up, same_store, refused}
-use Rattle.node.proofs.Adding.{none_more, one_more}
-use Rattle.node.proofs.DeviceCounts.{no_device, no_fault}
+use Rattle.node.proofs.Handling.{delivery_wants, wants}
+use Rattle.node.proofs.Stepping.{Handed, is_up}
 use Rattle.node.proofs.node.Node.on_promise.Goals as goal
 
-pub returns-in-Ok-Some-clause-event : goal.returns-in-Ok-Some-clause-event
-returns-in-Ok-Some-clause-event g c in_range =
+pub returns-in-Ok-Some : goal.returns-in-Ok-Some
+returns-in-Ok-Some g c in_range =
     let old = c.args.self.now in
     let q = c.args.from in
     let i = c.args.instance in
@@ -28,14 +26,13 @@ returns-in-Ok-Some-clause-event g c in_range =
     (c.in-Ok-Some.ensures.step attempts are) in
     let x = c.in-Ok-Some.proposal in
     let out : Handed = (All, Propose old.me x.instance x.ballot x.value) ∷ [] in
-    promise_whole g.D.Disk.stands_for old _ q i b prior (Some x.value) _ _ out (record { me = refl; cluster = refl; releases = refl }) c.requires.running in_range refl refl refl refl c.on_promise.ensures.same.2
-    (c.max-reached.ensures ∙ ap (max old.reached) c.number.ensures.is)
+    promise_whole g.D.Disk.stands_for g.D.Disk.failed old _ q i b prior (Some x.value) _ _ out (record { me = refl; cluster = refl; releases = refl }) c.requires.running in_range refl refl refl refl c.on_promise.ensures.same.2 refl
     (proposes_some old.proposer new old.cluster q i b prior answer taken x c.in-Ok-Some.field-0-is)
     (c.push_reserved.ensures.items ∙ ap (λ (l : Handed). l ++ out) c.reserve.ensures.items)
     (proposal_out old.proposer new old.cluster q i b prior answer taken old.me x c.in-Ok-Some.field-0-is)
 
-pub returns-in-Ok-None-clause-event : goal.returns-in-Ok-None-clause-event
-returns-in-Ok-None-clause-event g c in_range =
+pub returns-in-Ok-None : goal.returns-in-Ok-None
+returns-in-Ok-None g c in_range =
     let old = c.args.self.now in
     let q = c.args.from in
     let i = c.args.instance in
@@ -46,18 +43,16 @@ returns-in-Ok-None-clause-event g c in_range =
     let taken : (attempts : ℕ → Option Attempt) → Attempting old.proposer attempts → Promised old.cluster attempts q i b prior (Ok answer) new = λ attempts are.
     subst (λ (n : ℕ). Promised n attempts q i b prior (Ok answer) new) old.proposer_cluster
     (c.in-Ok-None.ensures.step attempts are) in
-    promise_whole g.D.Disk.stands_for old _ q i b prior None _ _ [] (record { me = refl; cluster = refl; releases = refl }) c.requires.running in_range refl refl refl refl c.on_promise.ensures.same.2
-    (c.max-reached.ensures ∙ ap (max old.reached) c.number.ensures.is)
+    promise_whole g.D.Disk.stands_for g.D.Disk.failed old _ q i b prior None _ _ [] (record { me = refl; cluster = refl; releases = refl }) c.requires.running in_range refl refl refl refl c.on_promise.ensures.same.2 refl
     (proposes_none old.proposer new old.cluster q i b prior answer taken c.in-Ok-None.field-0-is)
     (c.reserve.ensures.items ∙ sym (append-nil c.args.outbox.now.items))
     (λ attempts are. refl)
 
-pub returns-in-Err-clause-event : goal.returns-in-Err-clause-event
-returns-in-Err-clause-event g c in_range =
-    let stands_for = g.D.Disk.stands_for in
+pub returns-in-Err : goal.returns-in-Err
+returns-in-Err g c =
     let old = c.args.self.now in
-    refused stands_for old _ (deliver (Promise c.args.from c.args.instance c.args.ballot (vote_told c.args.prior))) OutOfMemory _ _ (record { me = refl; cluster = refl; releases = refl }) in_range c.reserve.ensures.items
-    (λ s stands. (is_up old s stands.parts c.requires.running, tt)) (same_store old.store old.store refl)
+    wants g.D.Disk.stands_for g.D.Disk.failed old _ (Promise c.args.from c.args.instance c.args.ballot (vote_told c.args.prior)) (Err OutOfMemory) _ _ (record { me = refl; cluster = refl; releases = refl })
+    (λ s stands. (is_up old s stands.parts c.requires.running, tt)) c.reserve.ensures.items refl refl
     (λ s parts. record {
       on_record = parts.on_record;
       votes = parts.votes;
@@ -68,30 +63,6 @@ returns-in-Err-clause-event g c in_range =
       reached = parts.reached;
     })
 
-pub returns-in_err-reserve-clause-event : goal.returns-in_err-reserve-clause-event
-returns-in_err-reserve-clause-event g c in_range =
-    delivery_wants g.D.Disk.stands_for c.args.self.now _ (Promise c.args.from c.args.instance c.args.ballot (vote_told c.args.prior)) c.from_residual.result _ _ (record { me = refl; cluster = refl; releases = refl }) c.requires.running in_range (λ s stands. tt) c.reserve.ensures.items c.from_residual.ensures.1 refl (record { learner = refl; known = refl; queue = refl; attempts = λ a are. are; heard = refl }) refl
-
-pub returns-in-Ok-Some-clause-grows : goal.returns-in-Ok-Some-clause-grows
-returns-in-Ok-Some-clause-grows g c = one_more _ _ _ _ c.reserve.ensures.items c.push_reserved.ensures.items
-
-pub returns-in-Ok-Some-clause-no_put : goal.returns-in-Ok-Some-clause-no_put
-returns-in-Ok-Some-clause-no_put g c = (no_fault tt, refl)
-
-pub returns-in-Ok-None-clause-no_put : goal.returns-in-Ok-None-clause-no_put
-returns-in-Ok-None-clause-no_put g c = (no_fault tt, refl)
-
-pub returns-in-Err-clause-no_put : goal.returns-in-Err-clause-no_put
-returns-in-Err-clause-no_put g c = (λ device. absurd (cc), refl)
-
-pub returns-in_err-reserve-clause-no_put : goal.returns-in_err-reserve-clause-no_put
-returns-in_err-reserve-clause-no_put g c = (no_device c.from_residual.result c.from_residual.ensures.1, refl)
-
-pub returns-in-Ok-None-clause-grows : goal.returns-in-Ok-None-clause-grows
-returns-in-Ok-None-clause-grows g c = none_more _ _ c.reserve.ensures.items
-
-pub returns-in-Err-clause-grows : goal.returns-in-Err-clause-grows
-returns-in-Err-clause-grows g c = none_more _ _ c.reserve.ensures.items
-
-pub returns-in_err-reserve-clause-grows : goal.returns-in_err-reserve-clause-grows
-returns-in_err-reserve-clause-grows g c = none_more _ _ c.reserve.ensures.items
+pub returns-in_err-reserve : goal.returns-in_err-reserve
+returns-in_err-reserve g c =
+    delivery_wants g.D.Disk.stands_for g.D.Disk.failed c.args.self.now (Promise c.args.from c.args.instance c.args.ballot (vote_told c.args.prior)) c.from_residual.result _ _ c.requires.running (λ s stands. tt) c.reserve.ensures.items c.from_residual.ensures.1

@@ -1,4 +1,4 @@
-use Rattle.std.proofs.Common.{subst, arith}
+use Rattle.std.proofs.Common.{subst}
 use Rattle.node.specs.Nodes.{IsMute}
 use Rattle.node.proofs.Gaps.{first_unknown, all_known, not_all_known, one_first}
 use Rattle.node.proofs.node.Node.only_learns.Goals as goal

@@ -1,5 +1,3 @@
-use Rattle.std.proofs.Common.{◌≡◌, ◌<◌, arith}
-use Rattle.site_ids.specs.Ids.{IsInstance}
 use Rattle.node.proofs.ToldAgain.{no_size}
 use Rattle.node.proofs.node.Node.told_size.Goals as goal
 
