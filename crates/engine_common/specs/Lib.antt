@@ -2,5 +2,6 @@ pub mod Cuts
 pub mod Bodies
 pub mod Submissions
 pub mod Feeds
+pub mod Filling
 pub mod Faults
 pub mod Answers

@@ -1,10 +1,9 @@
 -- Steps of the simulator.
-use Rattle.std.proofs.Common.{◌≡◌, ◌==◌, ◌⊎◌, true, false, true≢false, append-nil, String, Global, string_bytes, ℕ, zero, suc, ◌<◌, ◌≤◌, ◌+◌, List, [], ◌∷◌, ◌++◌, length, Some, None, refl, sym, ap, ◌∙◌, subst, arith, append_assoc, Option, Bool, Result, Ok, Err, inl, inr}
+use Rattle.std.proofs.Common.{◌≡◌, ◌≢◌, ◌⊎◌, append-nil, String, Global, string_bytes, ℕ, zero, suc, ◌<◌, ◌≤◌, ◌+◌, List, [], ◌∷◌, ◌++◌, length, Some, None, refl, sym, ap, ◌∙◌, subst, arith, append_assoc, Option, Result, Ok, Err, inl, inr}
 use Rattle.std.specs.Prelude.{IfOk, OnOk, IfErr, IsErrOf, ⊤}
 use Rattle.std.specs.List.{flat_map}
-use Rattle.std.proofs.lemmas.Bool.{ne_eqb}
 use Rattle.std.specs.Io.KnownBytes.{IsAtEnd}
-use Rattle.http_read.specs.Bytes.{End, IsSound}
+use Rattle.http_read.specs.Bytes.{End}
 use denote.Bor.{Bor}
 use Rattle.command.specs.Effective.{effective}
 use Rattle.command.specs.Releases.{release_count}
@@ -19,7 +18,6 @@ use Rattle.world.specs.Quieting.{AreUp, Learns}
 use Rattle.world.specs.Taking.{TakesAll, IsBad, MeetsBadEvent}
 use Rattle.world.specs.Telling.{fed_at}
 use Rattle.world.specs.Worlds.{World}
-use Rattle.http_read.specs.Counted.{RoseByOne}
 use Rattle.site_ids.specs.Ids.{IsNode}
 use Rattle.world.specs.declared.world.World.{World as Code}
 use Rattle.world.specs.Standing.{IsWorldOf, IsPublishedAt}
@@ -34,14 +32,16 @@ use Rattle.engine_schedule.specs.declared.simulator.SimFault.TheVariants as sim
 use Rattle.engine_schedule.specs.declared.schedule.Line.{Line as LineCode}
 use Rattle.engine_schedule.specs.declared.schedule.Found.{Found}
 use Rattle.engine_schedule.specs.declared.schedule.Found.TheVariants as found
-use Rattle.engine_schedule.specs.ScheduleView.{IsFound}
-use Rattle.engine_schedule.specs.Schedule.{Line, spelled, Fits, submit_line, tick_line, widen_line, ask_line, tell_line, keep_line, restart_line, replace_line, deliver_line, arm_line, crash_line, settle_line, quiet_line, show_line, get_line, trace_line}
+use Rattle.engine_schedule.specs.declared.schedule.FoundNodes.{FoundNodes}
+use Rattle.engine_schedule.specs.declared.schedule.FoundNodes.TheVariants as found_nodes
+use Rattle.engine_schedule.specs.ScheduleView.{IsFound, IsFoundNodes, IsDecided, AreDecided}
+use Rattle.engine_schedule.specs.Schedule.{Line, words, body, spelled, Fits, submit_line, tick_line, widen_line, ask_line, tell_line, keep_line, restart_line, replace_line, deliver_line, arm_line, crash_line, settle_line, quiet_line, show_line, get_line, trace_line}
 use Rattle.engine_schedule.specs.Tracing.{message_line}
 use Rattle.engine_schedule.specs.Simulation.{Moment, IsMoment, Takes, to_each, deliveries, event_of, HasRelease, IsPage, IsNoPage, Does, TakesOne, TakesPlan}
-use Rattle.engine_schedule.specs.SimulationEnds.{IsStart}
+use Rattle.engine_schedule.specs.SimulationEnds.{IsStart, HasBadLine, HasBadNodes}
 use Rattle.engine_common.specs.Feeds.{Grown, ReadEnds}
-use Rattle.engine_schedule.specs.Stepping.{HasLine, FillEnds, NextEnds, BeginEnds, HappenEnds, moment_of, sim_fault}
-use Rattle.engine_common.proofs.Fed.{taken_then}
+use Rattle.engine_common.specs.Submissions.{joined}
+use Rattle.engine_schedule.specs.Stepping.{NextEnds, BeginEnds, HappenEnds, moment_of, sim_fault}
 
 -- a run of one event meets no other
 pub met_bad : (n k : ℕ) (w after : World) (event : Event) → MeetsBadEvent n w (event ∷ []) k after → IsBad n w event
@@ -140,31 +140,39 @@ same_fault r y e f is from other = let same : Err y ≡ Err f = sym is ∙ other
 
 -- ---- bytes
 
--- bytes were read
-pub read_on : (reader : End) (old new : List ℕ) (b : Bool) → b ≡ true → ReadEnds reader old new (Ok b) → Grown reader old new × IsSound reader × (length old < length new)
-read_on reader old new true is h = h
-read_on reader old new false is h = cc
+-- a reading that fails
+pub read_fault : (reader : End) (s : Simulation) (old new : List ℕ) (e : InputFault) (r : Result (Option (String Global)) SimFault) → r ≡ Err (sim_fault e) → ReadEnds reader old new (Err e) → NextEnds reader s s old new r
+read_fault reader s old new input.Read r is h = rw is h
+read_fault reader s old new input.OutOfMemory r is h = rw is h
 
-pub none_held : (xs held : List ℕ) (b : Bool) → b ≡ true → b ≡ (length held == 0) → held ≡ xs → xs ≡ []
-none_held xs [] b is empty same = sym same
-none_held xs (x ∷ held) b is empty same = absurd (true≢false (sym is ∙ (empty ∙ ne_eqb (length (x ∷ held)) 0 (λ e. omega (arith, e)))))
+pub begin_fault : (reader : End) (old new : List ℕ) (e : InputFault) (r : Result Simulation SimFault) → r ≡ Err (sim_fault e) → ReadEnds reader old new (Err e) → BeginEnds reader old new r
+begin_fault reader old new input.Read r is h = rw is h
+begin_fault reader old new input.OutOfMemory r is h = rw is h
 
--- a filled feed with no line is at the input's end
-pub filled_none : (reader : End) (old new : List ℕ) (b : Bool) → b ≡ false → FillEnds reader old new (Ok b) → Grown reader old [] × IsSound reader × IsAtEnd reader.after
-filled_none reader old new true is h = cc
-filled_none reader old new false is (grown, sound, at_end, none) = (subst (λ xs. Grown reader old xs) none grown, sound, at_end)
+-- with nothing held the input is at its end
+pub at_end : (reader : End) (held : List ℕ) → IsDecided held ⊎ IsAtEnd reader.after → held ≡ [] → IsAtEnd reader.after
+at_end reader held (inl (inl (line, rest, fits, whole))) empty =
+    let long : 0 ≡ (length (joined (words line)) + suc (length (body line))) + length rest =
+    ap length (sym empty ∙ whole) ∙ (length-append (spelled line) rest ∙ ap (λ k. k + length rest) (length-append (joined (words line)) (10 ∷ body line))) in
+    absurd (omega (arith, long))
+at_end reader held (inl (inr never)) empty = absurd (never (spelled settle_line) settle_line [] tt (ap (λ t. t ++ spelled settle_line) empty ∙ sym (append-nil _)))
+at_end reader held (inr ended) empty = ended
 
-pub filled : (reader : End) (old new : List ℕ) (b : Bool) → b ≡ true → FillEnds reader old new (Ok b) → Grown reader old new × IsSound reader × HasLine new
-filled reader old new true is h = h
-filled reader old new false is h = cc
+-- with something held that is no line there is a bad line
+pub bad_line : (reader : End) (n : ℕ) (held : List ℕ) (f : Found) → IsDecided held ⊎ IsAtEnd reader.after → IsFound held f → ((line : LineCode) (rest : Bor (List ℕ)) → ¬ (f ≡ found.Line line rest)) → held ≢ [] → HasBadLine reader n held
+bad_line reader n held (found.Line line rest) decided is not some = absurd (not line rest refl)
+bad_line reader n held found.Short (inl (inl (line, rest, fits, whole))) none not some = absurd (none line rest fits whole)
+bad_line reader n held found.Short (inl (inr never)) none not some = inr (inl never)
+bad_line reader n held found.Short (inr ended) none not some = inl (ended, none, some)
+bad_line reader n held found.Bad decided never not some = inr (inl never)
 
--- a fault before a line is found
-pub fill_fault : (reader : End) (s : Simulation) (old new : List ℕ) (e : SimFault) (r : Result (Option (String Global)) SimFault) → r ≡ Err e → FillEnds reader old new (Err e) → NextEnds reader s s old new r
-fill_fault reader s old new sim.BadLine r is (grown, inl none) = rw is (new, grown, inl none)
-fill_fault reader s old new sim.BadLine r is (grown, inr never) = rw is (new, grown, inr (inl never))
-fill_fault reader s old new sim.BadEvent r is h = absurd h
-fill_fault reader s old new sim.OutOfMemory r is h = rw is h
-fill_fault reader s old new sim.Read r is h = rw is h
+-- what is no first line is none at the end, or never one
+pub bad_nodes : (reader : End) (held : List ℕ) (f : FoundNodes) → AreDecided held ⊎ IsAtEnd reader.after → IsFoundNodes held f → ((n : ℕ) (rest : Bor (List ℕ)) → ¬ (f ≡ found_nodes.Nodes n rest)) → HasBadNodes reader held
+bad_nodes reader held (found_nodes.Nodes n rest) decided is not = absurd (not n rest refl)
+bad_nodes reader held found_nodes.Short (inl (inl (n, rest, node, whole))) none not = absurd (none n rest node whole)
+bad_nodes reader held found_nodes.Short (inl (inr never)) none not = inr never
+bad_nodes reader held found_nodes.Short (inr ended) none not = inl (ended, none)
+bad_nodes reader held found_nodes.Bad decided never not = inr never
 
 -- a fault of the line that was found
 pub line_fault : (reader : End) (before after : Simulation) (old held new : List ℕ) (line : Line) (rest : List ℕ) (e : SimFault) (r : Result (Option (String Global)) SimFault) → r ≡ Err e → Grown reader old held → Fits line
@@ -173,25 +181,6 @@ line_fault reader before after old held new line rest sim.BadLine r is grown fit
 line_fault reader before after old held new line rest sim.BadEvent r is grown fits whole bad = rw is (held, grown, λ n events m. (line, rest, fits, whole, bad n events m))
 line_fault reader before after old held new line rest sim.OutOfMemory r is grown fits whole h = rw is (grown.more, grown.taken)
 line_fault reader before after old held new line rest sim.Read r is grown fits whole h = absurd h
-
--- a line is in front, so it is found
-pub unfound : (bytes held : List ℕ) (f : Found) → IsFound held f → held ≡ bytes → HasLine bytes → ((line : LineCode) (rest : Bor (List ℕ)) → ¬ (f ≡ found.Line line rest)) → ⊥
-unfound bytes held (found.Line line rest) is same has not = not line rest refl
-unfound bytes held found.Short none same (line, rest, fits, whole) not = none line rest fits (same ∙ whole)
-unfound bytes held found.Bad none same (line, rest, fits, whole) not = none [] line rest fits (append-nil held ∙ (same ∙ whole))
-
--- a call that fails after sound ones
-pub fault_then : (a b d : Option (List ℕ)) (f g h : ℕ) (old mid new : List ℕ) (e : InputFault) (r : Result Bool SimFault) → r ≡ Err (sim_fault e)
-    → Grown (record { before = a; after = b; failures = f; failures_after = g }) old mid → g ≡ f → ReadEnds (record { before = b; after = d; failures = g; failures_after = h }) mid new (Err e)
-    → FillEnds (record { before = a; after = d; failures = f; failures_after = h }) old new r
-fault_then a b d f g h old mid new input.Read r is p sound q = rw is (taken_then a b d f g h h old mid p q.0, subst (λ n. RoseByOne n h) sound q.1)
-fault_then a b d f g h old mid new input.OutOfMemory r is p sound q = rw is (taken_then a b d f g h h old mid p q)
-
-pub begin_fault_then : (a b d : Option (List ℕ)) (f g h : ℕ) (old mid new : List ℕ) (e : InputFault) (r : Result Simulation SimFault) → r ≡ Err (sim_fault e)
-    → Grown (record { before = a; after = b; failures = f; failures_after = g }) old mid → g ≡ f → ReadEnds (record { before = b; after = d; failures = g; failures_after = h }) mid new (Err e)
-    → BeginEnds (record { before = a; after = d; failures = f; failures_after = h }) old new r
-begin_fault_then a b d f g h old mid new input.Read r is p sound q = rw is (taken_then a b d f g h h old mid p q.0, subst (λ n. RoseByOne n h) sound q.1)
-begin_fault_then a b d f g h old mid new input.OutOfMemory r is p sound q = rw is (taken_then a b d f g h h old mid p q)
 
 -- ---- lines
 

@@ -1,5 +1,5 @@
 -- What the code's lines stand for.
-use Rattle.std.specs.Prelude.{ℕ, ◌≡◌, List, ◌++◌}
+use Rattle.std.specs.Prelude.{ℕ, ◌≡◌, ◌⊎◌, List, ◌++◌}
 use Rattle.site_ids.specs.Ids.{IsNode}
 use Rattle.engine_schedule.specs.declared.schedule.Line.{Line as Code}
 use Rattle.engine_schedule.specs.declared.schedule.Line.TheVariants as code
@@ -45,3 +45,12 @@ abbrev pub IsFoundNodes : List ℕ → FoundNodes → Type 0
 IsFoundNodes bytes (found_nodes.Nodes n rest) = IsNode 9 n × (bytes ≡ spelled_nodes n ++ rest.now)
 IsFoundNodes bytes found_nodes.Short = HasNoNodes bytes
 IsFoundNodes bytes found_nodes.Bad = GetsNoNodes bytes
+
+-- what is at the front is there, or never will be
+abbrev pub IsDecided : List ℕ → Type 0
+IsDecided bytes =
+    ((line : Line) × (rest : List ℕ) × Fits line × (bytes ≡ spelled line ++ rest)) ⊎ GetsNoLine bytes
+
+abbrev pub AreDecided : List ℕ → Type 0
+AreDecided bytes =
+    ((n : ℕ) × (rest : List ℕ) × IsNode 9 n × (bytes ≡ spelled_nodes n ++ rest)) ⊎ GetsNoNodes bytes

@@ -1,5 +1,5 @@
 -- What the simulator's calls make of a world and of the bytes that were read.
-use Rattle.std.specs.Prelude.{ℕ, ◌≡◌, ◌≢◌, ◌⊎◌, List, [], ◌++◌, Bool, true, false, Option, Some, None, Result}
+use Rattle.std.specs.Prelude.{ℕ, ◌≡◌, ◌⊎◌, List, [], ◌++◌, Option, Some, None, Result}
 use Rattle.std.specs.Prelude.{Ok, Err, String, string_bytes, codes, ⊤}
 use Rattle.std.specs.declared.alloc.Global.{Global}
 use Rattle.std.specs.Io.KnownBytes.{IsAtEnd}
@@ -11,7 +11,7 @@ use Rattle.engine_schedule.specs.declared.simulator.SimFault.{SimFault}
 use Rattle.engine_schedule.specs.declared.simulator.SimFault.TheVariants as sim
 use Rattle.engine_schedule.specs.declared.simulator.Simulation.{Simulation}
 use Rattle.site_ids.specs.Ids.{IsNode}
-use Rattle.engine_schedule.specs.Schedule.{Line, spelled, Fits, HasNoLine, GetsNoLine, spelled_nodes}
+use Rattle.engine_schedule.specs.Schedule.{Line, spelled, Fits, spelled_nodes}
 use Rattle.engine_schedule.specs.Simulation.{Moment, IsMoment, Does, AsksNone, IsBadEvent}
 use Rattle.engine_schedule.specs.SimulationEnds.{HasBadNodes, HasBadLine, HasBadEvent, IsStart}
 use Rattle.engine_common.specs.Faults.{fault_at}
@@ -43,21 +43,6 @@ HappenEnds old new line (Err sim.OutOfMemory) = ⊤
 HappenEnds old new line (Err sim.Read) = ⊥
 
 -- ---- bytes
-
--- a line is at the front
-abbrev pub HasLine : List ℕ → Type 0
-HasLine bytes = (line : Line) × (rest : List ℕ) × Fits line × (bytes ≡ spelled line ++ rest)
-
-abbrev pub FillEnds : End → List ℕ → List ℕ → Result Bool SimFault → Type 0
-FillEnds reader old new (Ok true) = Grown reader old new × IsSound reader × HasLine new
-FillEnds reader old new (Ok false) = Grown reader old new × IsSound reader × IsAtEnd reader.after × (new ≡ [])
-FillEnds reader old new (Err sim.BadLine) =
-    Grown reader old new × ((IsAtEnd reader.after × HasNoLine new × (new ≢ [])) ⊎ GetsNoLine new)
-FillEnds reader old new (Err sim.BadEvent) = ⊥
-FillEnds reader old new (Err sim.OutOfMemory) = HasTaken reader
-FillEnds reader old new (Err sim.Read) = HasTaken reader × HasFailed reader
-
--- ---- both
 
 -- a line was read and done
 pub record HasStepped (reader : End) (before after : Simulation) (old new : List ℕ)

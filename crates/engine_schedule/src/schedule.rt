@@ -4,7 +4,7 @@
 //! without its newline and a submission cut short. A fault's number counts lines; an index has 64 bits.
 
 ghost use Rattle.std.specs.Prelude.{◌≡◌, ◌≢◌, ℕ, List, ◌∷◌, ◌++◌, ◌<◌, ◌≤◌, ◌^◌, MatchOption, codes, decimal};
-ghost use Rattle.std.specs.Prelude.{[], Some, None};
+ghost use Rattle.std.specs.Prelude.{[], Some, None, false};
 ghost use Rattle.site_ids.specs.Ids.{IsNode, IsInstance};
 ghost use Rattle.engine_common.specs.Cuts.{Lacks, IsCut};
 ghost use Rattle.site_ids.specs.declared.Ticket.{Ticket as AbstractTicket};
@@ -14,6 +14,7 @@ ghost use Rattle.engine_schedule.specs.Schedule.{restart_line, replace_line, del
 ghost use Rattle.engine_schedule.specs.Schedule.{crash_line, quiet_line, show_line, get_line};
 ghost use Rattle.engine_common.specs.Submissions.{joined, FitsSubmission};
 ghost use Rattle.engine_schedule.specs.ScheduleView.{line_view, submission_words, IsFound, IsFoundNodes};
+ghost use Rattle.engine_schedule.specs.ScheduleView.{IsDecided, AreDecided};
 ghost use Rattle.engine_common.specs.Submissions.{submission_fits};
 
 use engine_common::{
@@ -277,6 +278,13 @@ pub(crate) fn line_in(bytes: &[u8]) -> Found<'_>
     }
 }
 
+/// Whether bytes that follow may make a line of these.
+pub(crate) fn is_short(bytes: &[u8]) -> bool
+    ensures { result ≡ false → IsDecided bytes.now }
+{
+    matches!(line_in(bytes), Found::Short)
+}
+
 fn cluster_in(head: &[u8]) -> Option<Cluster>
     ensures { MatchOption result ((n : ℕ) → IsNode 9 n → head.now ≢ codes "nodes " ++ decimal n)
         (λ n. IsNode 9 n × (head.now ≡ codes "nodes " ++ decimal n)) }
@@ -296,4 +304,11 @@ pub(crate) fn nodes_in(bytes: &[u8]) -> FoundNodes<'_>
         Some(cluster) => FoundNodes::Nodes(cluster, after),
         None => FoundNodes::Bad,
     }
+}
+
+/// Whether bytes that follow may make a first line of these.
+pub(crate) fn are_short(bytes: &[u8]) -> bool
+    ensures { result ≡ false → AreDecided bytes.now }
+{
+    matches!(nodes_in(bytes), FoundNodes::Short)
 }

@@ -12,7 +12,7 @@ ghost use Rattle.engine_schedule.specs.Simulation.{deliveries, state_word, IsSho
 ghost use Rattle.engine_schedule.specs.Simulation.{IsNoPage};
 ghost use Rattle.release.specs.Standing.{answer_view};
 ghost use Rattle.engine_schedule.specs.SimulationEnds.{IsStart, HasSimulated};
-ghost use Rattle.engine_schedule.specs.Stepping.{sim_fault, moment_of, HappenEnds, FillEnds, NextEnds};
+ghost use Rattle.engine_schedule.specs.Stepping.{sim_fault, moment_of, HappenEnds, NextEnds};
 ghost use Rattle.engine_schedule.specs.Stepping.{HasBegun, BeginEnds, behind, IsSaid};
 ghost use Rattle.site_ids.specs.Ids.{IsNode};
 ghost use Rattle.world.specs.declared.event.Event.{Event as AbstractEvent};
@@ -21,10 +21,10 @@ ghost use Rattle.world.specs.Standing.{IsWorldOf};
 ghost use Rattle.world.specs.Taking.{IsBad};
 ghost use Rattle.world.specs.Worlds.{World as AbstractWorld};
 
-use crate::schedule::{Found, FoundNodes, Line, line_in, nodes_in};
+use crate::schedule::{Found, FoundNodes, Line, are_short, is_short, line_in, nodes_in};
 use crate::tracing::traced;
 use command::write;
-use engine_common::{Feed, InputFault, say, say_at};
+use engine_common::{Feed, InputFault, fill, say, say_at};
 use http_read::{Counted, write_all};
 use release::Answer;
 use site_ids::{Cluster, NodeId, Value};
@@ -347,10 +347,11 @@ impl Simulation {
         ensures { NextEnds
             (end_of R.remaining reader.old reader.new) self.old self.new feed.old feed.new result }
     {
-        if !fill(feed, reader)? {
+        fill(feed, reader, is_short)?;
+        let held = feed.held();
+        if held.is_empty() {
             return Ok(None);
         }
-        let held = feed.held();
         let Found::Line(line, rest) = line_in(held) else {
             return Err(SimFault::BadLine);
         };
@@ -358,25 +359,6 @@ impl Simulation {
         let text = self.happen(alloc, &line)?;
         feed.pass(used);
         Ok(Some(text))
-    }
-}
-
-/// Reads until a line is at the front. Returns false at the input's end.
-fn fill<R: Read>(feed: &mut Feed, reader: &mut Counted<R>) -> Result<bool, SimFault>
-    ensures { FillEnds (end_of R.remaining reader.old reader.new) feed.old feed.new result }
-{
-    loop {
-        match line_in(feed.held()) {
-            Found::Line(..) => return Ok(true),
-            Found::Bad => return Err(SimFault::BadLine),
-            Found::Short => {}
-        }
-        if !feed.read_more(reader)? {
-            if feed.held().is_empty() {
-                return Ok(false);
-            }
-            return Err(SimFault::BadLine);
-        }
     }
 }
 
@@ -388,20 +370,14 @@ fn begin<R: Read>(
 ) -> Result<Simulation, SimFault>
     ensures { BeginEnds (end_of R.remaining reader.old reader.new) feed.old feed.new result }
 {
-    loop {
-        match nodes_in(feed.held()) {
-            FoundNodes::Nodes(cluster, rest) => {
-                let used = feed.held().len() - rest.len();
-                feed.pass(used);
-                return Ok(Simulation::new(alloc, cluster)?);
-            }
-            FoundNodes::Bad => return Err(SimFault::BadLine),
-            FoundNodes::Short => {}
-        }
-        if !feed.read_more(reader)? {
-            return Err(SimFault::BadLine);
-        }
-    }
+    fill(feed, reader, are_short)?;
+    let held = feed.held();
+    let FoundNodes::Nodes(cluster, rest) = nodes_in(held) else {
+        return Err(SimFault::BadLine);
+    };
+    let used = held.len() - rest.len();
+    feed.pass(used);
+    Ok(Simulation::new(alloc, cluster)?)
 }
 
 /// Says why line k stopped the run.

@@ -1,28 +1,27 @@
 -- Whole runs of a script.
-use Rattle.std.proofs.Common.{◌≡◌, ◌==◌, ◌<◌, true, false, ℕ, ◌+◌, List, [], ◌∷◌, ◌++◌, length, Option, Some, None, is_some, true≢false, Bool, Result, Ok, Err, Vec, Global, codes, refl, sym, ap, ◌∙◌, subst, inl, inr, arith, append_assoc, append-nil, length-append}
+use Rattle.std.proofs.Common.{◌≡◌, ◌≢◌, ◌⊎◌, true, ℕ, suc, ◌+◌, List, [], ◌∷◌, ◌++◌, length, Option, Some, None, is_some, true≢false, Result, Ok, Err, Vec, Global, codes, refl, sym, ap, ◌∙◌, subst, inl, inr, arith, append_assoc, append-nil, length-append}
 use Rattle.std.specs.List.{flat_map, AllByRecursion}
 use Rattle.std.specs.Io.KnownBytes.{Consumes, Appends, IsAtEnd}
 use Rattle.std.proofs.KnownBytes.{Consumes-trans, Consumes-nil, Appends-trans, Appends-nil}
 use Rattle.std.proofs.lemmas.List.Concat.{flat_map-append}
-use Rattle.std.proofs.lemmas.Bool.{ne_eqb}
-use denote.Bor.{Bor}
 use Rattle.http_read.specs.Bytes.{End, IsSound, IsSilent, IsWritten, IsBroken, IsGiven}
 use Rattle.http_read.specs.Counted.{RoseByOne}
 use Rattle.engine_script.specs.declared.cluster.ScriptFault.{ScriptFault}
 use Rattle.engine_script.specs.declared.cluster.ScriptFault.TheVariants as script
 use Rattle.engine_common.specs.declared.ends.InputFault.{InputFault}
 use Rattle.engine_common.specs.declared.ends.InputFault.TheVariants as input
-use Rattle.engine_script.specs.ScriptEnds.{Prints, PrintsAll, HasDone, HasRun, IsFault}
-use Rattle.engine_script.specs.ScriptSteps.{HasLine, HasStepped, HappenEnds, FillEnds, NextEnds, IsSaid, of_input, of_servers}
+use Rattle.engine_script.specs.ScriptEnds.{Prints, PrintsAll, HasDone, HasRun, HasBadLine, IsFault}
+use Rattle.engine_script.specs.ScriptSteps.{HasStepped, HappenEnds, NextEnds, IsSaid, of_input, of_servers}
 use Rattle.engine_script.specs.declared.loopback_fault.LoopbackFault.{LoopbackFault}
 use Rattle.engine_script.specs.declared.loopback_fault.LoopbackFault.TheVariants as loopback
 use Rattle.engine_script.specs.declared.script.Line.{Line as LineCode}
 use Rattle.engine_script.specs.declared.script.Found.{Found}
 use Rattle.engine_script.specs.declared.script.Found.TheVariants as found
-use Rattle.engine_script.specs.ScriptView.{IsFound}
-use Rattle.engine_script.specs.Script.{Line, spelled, Fits}
+use Rattle.engine_script.specs.ScriptView.{IsFound, IsDecided}
+use Rattle.engine_script.specs.Script.{Line, turns_line, words, body, spelled, Fits}
+use denote.Bor.{Bor}
 use Rattle.engine_common.specs.Feeds.{Grown, ReadEnds}
-use Rattle.engine_common.proofs.Fed.{taken_then}
+use Rattle.engine_common.specs.Submissions.{joined}
 
 -- ---- one line more
 
@@ -178,49 +177,32 @@ broken a b d f g h p q r x y z err k status feed new text written same so step o
       status_is = one;
     }))
 
--- ---- a call that fails after sound ones
+-- ---- a line that is read and done
 
-pub fault_then : (a b d : Option (List ℕ)) (f g h : ℕ) (old mid new : List ℕ) (e : InputFault) (r : Result Bool ScriptFault) → r ≡ Err (of_input e)
-    → Grown (record { before = a; after = b; failures = f; failures_after = g }) old mid → g ≡ f → ReadEnds (record { before = b; after = d; failures = g; failures_after = h }) mid new (Err e)
-    → FillEnds (record { before = a; after = d; failures = f; failures_after = h }) old new r
-fault_then a b d f g h old mid new input.Read r is p sound q = rw is (taken_then a b d f g h h old mid p q.0, subst (λ n. RoseByOne n h) sound q.1)
-fault_then a b d f g h old mid new input.OutOfMemory r is p sound q = rw is (taken_then a b d f g h h old mid p q)
+-- a reading that fails
+pub read_fault : (reader : End) (old new : List ℕ) (e : InputFault) (r : Result (Option (Vec ℕ Global)) ScriptFault) → r ≡ Err (of_input e) → ReadEnds reader old new (Err e) → NextEnds reader old new r
+read_fault reader old new input.Read r is h = rw is h
+read_fault reader old new input.OutOfMemory r is h = rw is h
 
--- ---- a line that is found and done
+-- with nothing held the input is at its end
+pub at_end : (reader : End) (held : List ℕ) → IsDecided held ⊎ IsAtEnd reader.after → held ≡ [] → IsAtEnd reader.after
+at_end reader held (inl (inl (line, rest, fits, whole))) empty =
+    let long : 0 ≡ (length (joined (words line)) + suc (length (body line))) + length rest =
+    ap length (sym empty ∙ whole) ∙ (length-append (spelled line) rest ∙ ap (λ k. k + length rest) (length-append (joined (words line)) (10 ∷ body line))) in
+    absurd (omega (arith, long))
+at_end reader held (inl (inr never)) empty = absurd (never (spelled (turns_line 0)) (turns_line 0) [] (omega arith) (ap (λ t. t ++ spelled (turns_line 0)) empty ∙ sym (append-nil _)))
+at_end reader held (inr ended) empty = ended
 
--- bytes were read
-pub read_on : (reader : End) (old new : List ℕ) (b : Bool) → b ≡ true → ReadEnds reader old new (Ok b) → Grown reader old new × IsSound reader × (length old < length new)
-read_on reader old new true is h = h
-read_on reader old new false is h = cc
-
-pub none_held : (xs held : List ℕ) (b : Bool) → b ≡ true → b ≡ (length held == 0) → held ≡ xs → xs ≡ []
-none_held xs [] b is empty same = sym same
-none_held xs (x ∷ held) b is empty same = absurd (true≢false (sym is ∙ (empty ∙ ne_eqb (length (x ∷ held)) 0 (λ e. omega (arith, e)))))
-
--- with no line held the input is at its end
-pub filled_none : (reader : End) (old new : List ℕ) (b : Bool) → b ≡ false → FillEnds reader old new (Ok b) → Grown reader old [] × IsSound reader × IsAtEnd reader.after
-filled_none reader old new true is h = cc
-filled_none reader old new false is (grown, sound, at_end, none) = (subst (λ xs. Grown reader old xs) none grown, sound, at_end)
-
-pub filled : (reader : End) (old new : List ℕ) (b : Bool) → b ≡ true → FillEnds reader old new (Ok b) → Grown reader old new × IsSound reader × HasLine new
-filled reader old new true is h = h
-filled reader old new false is h = cc
-
--- a fault before a line is found
-pub fill_fault : (reader : End) (old new : List ℕ) (e : ScriptFault) (r : Result (Option (Vec ℕ Global)) ScriptFault) → r ≡ Err e → FillEnds reader old new (Err e) → NextEnds reader old new r
-fill_fault reader old new script.BadLine r is (grown, bad) = rw is (new, grown, bad)
-fill_fault reader old new script.Socket r is h = absurd h
-fill_fault reader old new script.OutOfMemory r is h = rw is h
-fill_fault reader old new script.Read r is h = rw is h
+-- with something held that is no line there is a bad line
+pub bad_line : (reader : End) (held : List ℕ) (f : Found) → IsDecided held ⊎ IsAtEnd reader.after → IsFound held f → ((line : LineCode) (rest : Bor (List ℕ)) → ¬ (f ≡ found.Line line rest)) → held ≢ [] → HasBadLine reader held
+bad_line reader held (found.Line line rest) decided is not some = absurd (not line rest refl)
+bad_line reader held found.Short (inl (inl (line, rest, fits, whole))) none not some = absurd (none line rest fits whole)
+bad_line reader held found.Short (inl (inr never)) none not some = inr never
+bad_line reader held found.Short (inr ended) none not some = inl (ended, none, some)
+bad_line reader held found.Bad decided never not some = inr never
 
 -- a fault of the line that was found
 pub line_fault : (reader : End) (old held new : List ℕ) (line : Line) (rest : List ℕ) (e : LoopbackFault) (r : Result (Option (Vec ℕ Global)) ScriptFault) → r ≡ Err (of_servers e) → Grown reader old held → Fits line
     → held ≡ spelled line ++ rest → HappenEnds line (Err e) → NextEnds reader old new r
 line_fault reader old held new line rest loopback.Socket r is grown fits whole asks = rw is (held, grown, (line, rest, fits, whole, asks))
 line_fault reader old held new line rest loopback.OutOfMemory r is grown fits whole h = rw is (grown.more, grown.taken)
-
--- where a line stands one is found
-pub unfound : (bytes held : List ℕ) (f : Found) → IsFound held f → held ≡ bytes → HasLine bytes → ((line : LineCode) (rest : Bor (List ℕ)) → ¬ (f ≡ found.Line line rest)) → ⊥
-unfound bytes held (found.Line line rest) is same has not = not line rest refl
-unfound bytes held found.Short none same (line, rest, fits, whole) not = none line rest fits (same ∙ whole)
-unfound bytes held found.Bad none same (line, rest, fits, whole) not = none [] line rest fits (append-nil held ∙ (same ∙ whole))

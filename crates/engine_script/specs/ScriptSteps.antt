@@ -1,5 +1,5 @@
 -- What the steps of a script's run make of the bytes that were read.
-use Rattle.std.specs.Prelude.{ℕ, ◌≡◌, ◌⊎◌, List, [], ◌++◌, Bool, true, false, Option, Some, None, Result, Ok}
+use Rattle.std.specs.Prelude.{ℕ, ◌≡◌, ◌⊎◌, List, [], ◌++◌, Option, Some, None, Result, Ok}
 use Rattle.std.specs.Prelude.{Err, Vec, codes, ⊤}
 use Rattle.std.specs.declared.alloc.Global.{Global}
 use Rattle.std.specs.Io.KnownBytes.{IsAtEnd}
@@ -28,18 +28,6 @@ abbrev pub HappenEnds : Line → Result (Vec ℕ Global) LoopbackFault → Type 
 HappenEnds line (Ok text) = Prints line text.items
 HappenEnds line (Err loopback.Socket) = IsRequest line
 HappenEnds line (Err loopback.OutOfMemory) = ⊤
-
--- a line is at the front
-abbrev pub HasLine : List ℕ → Type 0
-HasLine bytes = (line : Line) × (rest : List ℕ) × Fits line × (bytes ≡ spelled line ++ rest)
-
-abbrev pub FillEnds : End → List ℕ → List ℕ → Result Bool ScriptFault → Type 0
-FillEnds reader old new (Ok true) = Grown reader old new × IsSound reader × HasLine new
-FillEnds reader old new (Ok false) = Grown reader old new × IsSound reader × IsAtEnd reader.after × (new ≡ [])
-FillEnds reader old new (Err script.BadLine) = Grown reader old new × HasBadLine reader new
-FillEnds reader old new (Err script.Socket) = ⊥
-FillEnds reader old new (Err script.OutOfMemory) = HasTaken reader
-FillEnds reader old new (Err script.Read) = HasTaken reader × HasFailed reader
 
 -- a line was read and done
 pub record HasStepped (reader : End) (old new : List ℕ) (text : List ℕ) : Type 0 where

@@ -1,5 +1,5 @@
 -- What the code's lines of a script stand for.
-use Rattle.std.specs.Prelude.{ℕ, ◌≡◌, List, ◌++◌}
+use Rattle.std.specs.Prelude.{ℕ, ◌≡◌, ◌⊎◌, List, ◌++◌}
 use Rattle.engine_script.specs.declared.script.Line.{Line as Code}
 use Rattle.engine_script.specs.declared.script.Line.TheVariants as code
 use Rattle.engine_script.specs.declared.script.Found.{Found}
@@ -25,3 +25,8 @@ abbrev pub IsFound : List ℕ → Found → Type 0
 IsFound bytes (found.Line line rest) = Fits (line_view line) × (bytes ≡ spelled (line_view line) ++ rest.now)
 IsFound bytes found.Short = HasNoLine bytes
 IsFound bytes found.Bad = GetsNoLine bytes
+
+-- a line is at the front, or none ever will be
+abbrev pub IsDecided : List ℕ → Type 0
+IsDecided bytes =
+    ((line : Line) × (rest : List ℕ) × Fits line × (bytes ≡ spelled line ++ rest)) ⊎ GetsNoLine bytes

@@ -7,13 +7,13 @@ ghost use Rattle.engine_script.specs.Client.{IsShown};
 ghost use Rattle.engine_script.specs.Script.{Fits};
 ghost use Rattle.engine_script.specs.ScriptView.{line_view};
 ghost use Rattle.engine_script.specs.ScriptEnds.{HasRun, HasDriven};
-ghost use Rattle.engine_script.specs.ScriptSteps.{HappenEnds, FillEnds, NextEnds, IsSaid};
+ghost use Rattle.engine_script.specs.ScriptSteps.{HappenEnds, NextEnds, IsSaid};
 
 use crate::client::{get_request, post_request, shown};
 use crate::loopback_fault::LoopbackFault;
-use crate::script::{Found, Line, line_in};
+use crate::script::{Found, Line, is_short, line_in};
 use crate::servers::Servers;
-use engine_common::{Feed, InputFault, say, say_at};
+use engine_common::{Feed, InputFault, fill, say, say_at};
 use http_read::{Counted, write_all};
 use site_ids::NodeId;
 use std::alloc::Global;
@@ -107,25 +107,6 @@ fn happen<N: Net<Stream = TcpStream>>(
     }
 }
 
-/// Reads until a line is at the front. Returns false at the input's end.
-fn fill<R: Read>(feed: &mut Feed, reader: &mut Counted<R>) -> Result<bool, ScriptFault>
-    ensures { FillEnds (end_of R.remaining reader.old reader.new) feed.old feed.new result }
-{
-    loop {
-        match line_in(feed.held()) {
-            Found::Line(..) => return Ok(true),
-            Found::Bad => return Err(ScriptFault::BadLine),
-            Found::Short => {}
-        }
-        if !feed.read_more(reader)? {
-            if feed.held().is_empty() {
-                return Ok(false);
-            }
-            return Err(ScriptFault::BadLine);
-        }
-    }
-}
-
 /// Does the next line of the input. The answer is what it prints, or nothing at the input's end.
 fn next<N: Net<Stream = TcpStream>, R: Read>(
     net: &N,
@@ -136,10 +117,11 @@ fn next<N: Net<Stream = TcpStream>, R: Read>(
 ) -> Result<Option<Vec<u8>>, ScriptFault>
     ensures { NextEnds (end_of R.remaining reader.old reader.new) feed.old feed.new result }
 {
-    if !fill(feed, reader)? {
+    fill(feed, reader, is_short)?;
+    let held = feed.held();
+    if held.is_empty() {
         return Ok(None);
     }
-    let held = feed.held();
     let Found::Line(line, rest) = line_in(held) else {
         return Err(ScriptFault::BadLine);
     };

@@ -1,12 +1,12 @@
 //! The lines of a script.
-ghost use Rattle.std.specs.Prelude.{◌≡◌, ◌≢◌, ℕ, List, ◌∷◌, ◌++◌, ◌≤◌, MatchOption, []};
+ghost use Rattle.std.specs.Prelude.{◌≡◌, ◌≢◌, ℕ, List, ◌∷◌, ◌++◌, ◌≤◌, MatchOption, [], false};
 ghost use Rattle.site_ids.specs.Ids.{IsNode};
 ghost use Rattle.site_ids.specs.declared.Ticket.{Ticket as AbstractTicket};
 ghost use Rattle.engine_common.specs.Cuts.{Lacks};
 ghost use Rattle.engine_common.specs.Submissions.{joined};
 ghost use Rattle.engine_script.specs.Script.{Line as AbstractLine, words, post_words, FitsPost, Fits};
 ghost use Rattle.engine_script.specs.Script.{IsTarget, body, get_line, turns_line, drive_line};
-ghost use Rattle.engine_script.specs.ScriptView.{line_view, post_fits, posted_words, IsFound};
+ghost use Rattle.engine_script.specs.ScriptView.{line_view, post_fits, posted_words, IsFound, IsDecided};
 
 use engine_common::{
     Body, SubmissionLine, after, body_in, cut, number_at_node, read_node, read_number,
@@ -155,4 +155,11 @@ pub(crate) fn line_in(bytes: &[u8]) -> Found<'_>
         Some(line) => Found::Line(line, after),
         None => Found::Bad,
     }
+}
+
+/// Whether bytes that follow may make a line of these.
+pub(crate) fn is_short(bytes: &[u8]) -> bool
+    ensures { result ≡ false → IsDecided bytes.now }
+{
+    matches!(line_in(bytes), Found::Short)
 }

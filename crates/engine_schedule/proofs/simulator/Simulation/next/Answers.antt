@@ -1,27 +1,34 @@
-use Rattle.std.proofs.Common.{◌∙◌, ap, sym, refl, Err}
+use Rattle.std.proofs.Common.{◌∙◌, ◌⊎◌, ap, sym, refl, subst, Err, List, ℕ}
+use Rattle.std.specs.Io.KnownBytes.{IsAtEnd}
 use Rattle.std.proofs.lemmas.Result.{err_from_is_err_and}
 use Rattle.http_read.specs.Bytes.{end_of}
-use Rattle.engine_schedule.specs.ScheduleView.{line_view}
-use Rattle.engine_schedule.proofs.Simulating.{filled, filled_none, fill_fault, line_fault, unfound}
+use Rattle.engine_common.specs.Feeds.{Grown}
+use Rattle.engine_common.proofs.Fed.{some_held, none_held}
+use Rattle.engine_schedule.specs.ScheduleView.{line_view, IsDecided}
+use Rattle.engine_schedule.proofs.Simulating.{read_fault, line_fault, at_end, bad_line}
 use Rattle.engine_schedule.proofs.simulator.Simulation.next.Goals as goal
 
 pub returns-in_err-fill : goal.returns-in_err-fill
 returns-in_err-fill g c =
     let p = err_from_is_err_and c.from_residual.result c.from_residual.ensures.1 in
-    fill_fault (end_of g.R.Read.remaining c.args.reader.now c.fill.new.reader) _ c.args.feed.now c.fill.new.feed c.in_err-fill.field-0.0 c.from_residual.result (p.1 ∙ ap Err p.2) c.in_err-fill.ensures
+    read_fault (end_of g.R.Read.remaining c.args.reader.now c.fill.new.reader) _ c.args.feed.now c.fill.new.feed c.in_err-fill.field-0.0 c.from_residual.result (p.1 ∙ ap Err p.2) c.in_err-fill.ensures
 
-pub returns-then-not-branch : goal.returns-then-not-branch
-returns-then-not-branch g c =
-    let f = filled_none _ _ _ c.in_ok-fill.field-0 c.if-not-branch.true c.in_ok-fill.ensures in
-    (f.0, f.1, f.2, refl)
+pub returns-then-is_empty : goal.returns-then-is_empty
+returns-then-is_empty g c =
+    let f = c.in_ok-fill.ensures in
+    let empty = none_held _ _ c.is_empty.result c.if-is_empty.true c.is_empty.ensures c.held-held.ensures in
+    let decided : IsDecided c.fill.new.feed ⊎ IsAtEnd (end_of g.R.Read.remaining c.args.reader.now c.fill.new.reader).after = search rules in
+    (subst (λ (xs : List ℕ). Grown (end_of g.R.Read.remaining c.args.reader.now c.fill.new.reader) c.args.feed.now xs) empty f.0, f.1, at_end (end_of g.R.Read.remaining c.args.reader.now c.fill.new.reader) c.fill.new.feed decided empty, refl)
 
 pub returns-in_default : goal.returns-in_default
 returns-in_default g c =
-    let f = filled _ _ _ c.in_ok-fill.field-0 c.if-not-branch.false c.in_ok-fill.ensures in
-    absurd (unfound _ _ c.line_in.result c.line_in.ensures c.held-held.ensures f.2 c.in_default.not-Line)
+    let f = c.in_ok-fill.ensures in
+    let some = some_held _ _ c.is_empty.result c.if-is_empty.false c.is_empty.ensures c.held-held.ensures in
+    let decided : IsDecided c.fill.new.feed ⊎ IsAtEnd (end_of g.R.Read.remaining c.args.reader.now c.fill.new.reader).after = search rules in
+    (c.fill.new.feed, f.0, bad_line (end_of g.R.Read.remaining c.args.reader.now c.fill.new.reader) _ c.fill.new.feed c.line_in.result decided (rw c.held-held.ensures at c.line_in.ensures) c.in_default.not-Line some)
 
 pub returns-in_err-text : goal.returns-in_err-text
 returns-in_err-text g c =
-    let f = filled _ _ _ c.in_ok-fill.field-0 c.if-not-branch.false c.in_ok-fill.ensures in
+    let f = c.in_ok-fill.ensures in
     let p = err_from_is_err_and c.from_residual-in_err-text.result c.from_residual-in_err-text.ensures.1 in
     line_fault (end_of g.R.Read.remaining c.args.reader.now c.fill.new.reader) c.args.self.now c.happen.new.self c.args.feed.now c.fill.new.feed c.fill.new.feed (line_view c.in-Line.line) c.in-Line.rest.now c.in_err-text.field-0.0 c.from_residual-in_err-text.result (p.1 ∙ ap Err p.2) f.0 c.in-Line.ensures.0 (sym c.held-held.ensures ∙ c.in-Line.ensures.1) c.in_err-text.ensures

@@ -1,7 +1,7 @@
 use Rattle.std.proofs.Common.{◌-◌, ◌^◌, length}
 use Rattle.http_read.specs.Bytes.{end_of, IsSound}
 use Rattle.engine_common.specs.Feeds.{Grown}
-use Rattle.engine_script.proofs.cluster.fill.Given as goal
+use Rattle.engine_common.proofs.filling.fill.Given as goal
 
 -- what was read so far is held after the rest
 abbrev pub invariant-loop-feed : goal.invariant-loop-feed
