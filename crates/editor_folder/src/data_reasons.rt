@@ -59,7 +59,7 @@ fn is_word(b: u8) -> bool {
     matches!(b, b'a'..=b'z' | b'A'..=b'Z' | b'_') && !matches!(b, b't' | b'f' | b'n')
 }
 
-/// Why a byte can't stand behind what stands before it.
+/// Why a byte can't stand after what stands before it.
 fn reason_at(alloc: Global, before: u8, here: u8) -> Result<String, AllocError> {
     let reason = match (before, here) {
         (b',', b'}' | b']') => "no JSON: the comma before this has to go",
@@ -200,7 +200,7 @@ fn is_whole(number: &str) -> bool {
     number != "-0" && (number.parse::<i64>().is_ok() || number.parse::<u64>().is_ok())
 }
 
-/// Where the reading of a text of JSON is: outside of its texts, in one, or behind a backslash in one.
+/// Where the reading of a text of JSON is: outside of its texts, in one, or after a backslash in one.
 #[derive(Clone, Copy, PartialEq, Eq)]
 pub(crate) enum Inside {
     Nothing,

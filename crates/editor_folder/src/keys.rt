@@ -30,7 +30,7 @@ struct Walk<'a> {
     alloc: Global,
     text: &'a str,
     inside: Inside,
-    /// The byte at which the last text began, and the one behind its end.
+    /// The byte at which the last text began, and the one after its end.
     from: usize,
     to: usize,
     objects: usize,

@@ -28,7 +28,7 @@ fn leads_in(bytes: &[u8]) -> usize
     bytes.iter().filter(|b| is_lead(**b)).count()
 }
 
-/// How many characters stand behind the last newline.
+/// How many characters stand after the last newline.
 fn characters_behind(bytes: &[u8]) -> usize
     ensures { result ≡ count_by is_lead (take_while (λ b. not (b == 10)) (reverse bytes.now)) }
 {
@@ -52,7 +52,7 @@ pub fn place_of(text: &[u8], at: usize) -> Place
     }
 }
 
-/// The place behind a part of a text, by that before it.
+/// The place after a part of a text, by that before it.
 fn place_behind(before: Place, part: &[u8]) -> Place
     requires line { before.line + length part.now < 2 ^ 64 }
     requires column { before.column + length part.now < 2 ^ 64 }

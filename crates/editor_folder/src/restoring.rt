@@ -4,7 +4,7 @@ use crate::lines::before;
 use std::alloc::{AllocError, Global};
 use std::collections::BTreeSet;
 
-/// What a text puts: its kind, its name or its path, and what stands behind that.
+/// What a text puts: its kind, its name or its path, and what stands after that.
 #[derive(Clone, Copy)]
 struct Put<'a> {
     kind: &'a str,
@@ -37,7 +37,7 @@ fn path_of(alloc: Global, put: Put<'_>) -> Result<Option<String>, AllocError> {
     }))
 }
 
-/// What stands behind the first line of a text.
+/// What stands after the first line of a text.
 fn body_of(text: &str) -> &str {
     match text.split_once('\n') {
         Some((_, body)) => body,

@@ -12,7 +12,7 @@ pub(crate) enum Role<'a> {
     Removes,
     /// What an editor keeps of what was published.
     Published,
-    /// No part of a site, and meant so: a name with a dot before or a `~` behind, or a `README`.
+    /// No part of a site, and meant so: a name with a dot before it or a `~` after it, or a `README`.
     PassedOver,
     /// No part of a site, and why.
     Wrong(&'static str),

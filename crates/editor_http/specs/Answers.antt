@@ -11,7 +11,7 @@ use Rattle.editor_http.specs.declared.looking.Look.TheVariants.{Whole, Open, Nev
 use Rattle.editor_http.specs.declared.looking.TheConstants.{FIELDS, MAX_BODY}
 use Rattle.editor_http.specs.declared.reading.TheConstants.{MOST}
 
--- the bytes are a head and the body behind it, as long as the first Content-Length line says
+-- the bytes are a head and the body after it, as long as the first Content-Length line says
 pub record IsAnswer (bytes : List ℕ) (status : ℕ) (body : List ℕ) : Type 0 where
   pub head : ResponseHead
   pub reads : ReadsResponse bytes head body

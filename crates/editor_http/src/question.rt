@@ -96,7 +96,7 @@ impl Question<'_> {
         }
     }
 
-    /// The bytes of the request to a host. Behind the last one of a connection the node closes it.
+    /// The bytes of the request to a host. After the last one of a connection the node closes it.
     pub fn spelled(&self, alloc: Global, to: &Authority, last: bool) -> Result<String, AllocError>
         ensures { IfOk result (λ request. string_bytes request ≡ request_of to.now last self.now) }
     {

@@ -12,7 +12,7 @@ is_caret b = b == 94
 abbrev pub carets : List ℕ → List ℕ
 carets page = repeat (count_by is_caret page + 1) (94 ∷ [])
 
--- the page behind a line that makes these the delimiters
+-- the page after a line that makes these the delimiters
 abbrev pub verbatim : List ℕ → List ℕ
 verbatim page = codes "{{=" ++ (carets page ++ (codes " " ++ (carets page ++ (codes "=}}\n" ++ page))))
 

@@ -11,7 +11,7 @@ pub record Head : Type 0 where
   pub kind : List ℕ
   pub name : List ℕ
 
--- the words behind the verb: the kind, and the name up to the next space
+-- the words after the verb: the kind, and the name up to the next space
 abbrev pub head_with : List ℕ → List ℕ × List ℕ → Head
 head_with verb p = record { verb = verb; kind = p.0; name = before_first (λ b. b == 32) p.1 }
 

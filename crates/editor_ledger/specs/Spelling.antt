@@ -16,11 +16,11 @@ released_line r =
     released_word r.exact
     ++ (decimal r.release ++ (32 ∷ (decimal r.time ++ (32 ∷ (decimal r.commands ++ (10 ∷ []))))))
 
--- a text behind the line of its length, and a newline
+-- a text after the line of its length, and a newline
 abbrev pub kept_entry : List ℕ → List ℕ
 kept_entry text = codes "has " ++ (decimal (length text) ++ (10 ∷ (text ++ (10 ∷ []))))
 
--- a text behind the line of a word, a number and its length
+-- a text after the line of a word, a number and its length
 abbrev pub numbered_entry : List ℕ → Given → List ℕ
 numbered_entry word g =
     word ++ (32 ∷ (decimal g.number ++ (32 ∷ (decimal (length g.text) ++ (10 ∷ (g.text ++ (10 ∷ [])))))))

@@ -121,7 +121,7 @@ fn know(alloc: Global, known: &mut Several, head: &Head<'_>) -> Result<Option<bo
     Ok(None)
 }
 
-/// Takes out what is about the same as a text that is to come behind the others.
+/// Takes out what is about the same as a text that is to come after the others.
 fn make_way(
     alloc: Global,
     kept: &mut Vec<String>,
@@ -149,7 +149,7 @@ fn make_way(
     Ok(())
 }
 
-/// Notes a text that comes behind the others.
+/// Notes a text that comes after the others.
 fn know_more(alloc: Global, known: &mut Several, text: &str) -> Result<(), AllocError>
     ensures ok { OnOk result ((texts : List (List ℕ)) → Bounds known.old texts
         → Bounds known.new (texts ++ text.now ∷ [])) }
@@ -182,7 +182,7 @@ impl Kept {
         self.texts.as_slice()
     }
 
-    /// Adds a text behind the others.
+    /// Adds a text after the others.
     pub(crate) fn push(&mut self, text: String) -> Result<(), AllocError>
         ensures ok { OnOk result (self.new ≡ self.old ++ string_bytes text ∷ []) }
         ensures err { OnErr result (self.new ≡ self.old) }

@@ -21,7 +21,7 @@ struct Rest<'a> {
     line: usize,
 }
 
-/// What stands behind the front lines.
+/// What stands after the front lines.
 #[derive(Clone, Copy)]
 enum Entry<'a> {
     Released(Released),
@@ -46,7 +46,7 @@ impl<'a> Rest<'a> {
         }
     }
 
-    /// The words of the first line before and behind a blank.
+    /// The words of the first line before and after a blank.
     fn parted<'b>(self, words: &'b str) -> Result<(&'b str, &'b str), LedgerReadFault> {
         words
             .split_once(' ')
@@ -69,7 +69,7 @@ impl<'a> Rest<'a> {
         number.parse().map_err(|_| LedgerReadFault::Line(self.line))
     }
 
-    /// A text of so many bytes, and a newline behind it.
+    /// A text of so many bytes, and a newline after it.
     fn counted(self, length: u64) -> Result<(&'a str, Rest<'a>), LedgerReadFault> {
         let fault = LedgerReadFault::Line(self.line);
         let (text, after) = self.text.split_at_checked(length as usize).ok_or(fault)?;
@@ -96,7 +96,7 @@ impl<'a> Rest<'a> {
         })
     }
 
-    /// The number and the text of an entry, whose numbers stand in the first line; its text stands behind
+    /// The number and the text of an entry, whose numbers stand in the first line; its text stands after
     /// that.
     fn numbered(
         self,
@@ -108,7 +108,7 @@ impl<'a> Rest<'a> {
         Ok((self.parsed(number)?, text, rest))
     }
 
-    /// The entry that the first line begins; the rest stands behind that line.
+    /// The entry that the first line begins; the rest stands after that line.
     fn entry(self) -> Result<(Entry<'a>, Rest<'a>), LedgerReadFault> {
         let (line, rest) = self.line()?;
         match self.parted(line)? {
@@ -179,7 +179,7 @@ struct Front {
     last_release: u64,
 }
 
-/// The front lines of a text, and what stands behind them.
+/// The front lines of a text, and what stands after them.
 fn front_of(text: &str) -> Result<(Front, Rest<'_>), LedgerReadFault> {
     let (version, rest) = Rest { text, line: 1 }.number("published")?;
     let (editor, rest) = rest.number("editor")?;

@@ -17,7 +17,7 @@ is_html path =
 abbrev pub script : ℕ → List ℕ
 script number = BEFORE.now ++ (decimal number ++ BEHIND.now)
 
--- a page that is shown and is HTML has the script behind it; any other one is as it is
+-- a page that is shown and is HTML has the script after it; any other one is as it is
 abbrev pub in_browser : ℕ → List ℕ → Page → Page
 in_browser number path page =
     if page.status == 200 && is_html path

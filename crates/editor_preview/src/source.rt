@@ -56,7 +56,7 @@ impl<'a> Source<'a> {
         }
     }
 
-    /// The folder's release, or its faults; all that is wrong with it is put behind `told`.
+    /// The folder's release, or its faults; all that is wrong with it is put after `told`.
     fn read<R: Files + AllocGlobal + Clone + Drop>(
         &self,
         rt: &R,

@@ -28,7 +28,7 @@ fn time_of(alloc: Global, released: &Released) -> Result<String, AllocError> {
 }
 
 /// Writes a release: its number, when it was seen first, and how many commands it shows that none showed
-/// before; and the lines that were said of it, each behind four blanks.
+/// before; and the lines that were said of it, each after four blanks.
 fn tell<W: Write>(
     alloc: Global,
     out: &mut W,

@@ -74,7 +74,7 @@ fn read_one<R: Read>(
 
 /// Reads one request, at the front of what the inbox holds and then of what the reader gives.
 ///
-/// Behind a request the inbox and the reader have exactly the bytes that follow it. Behind a refusal or a
+/// After a request the inbox and the reader have exactly the bytes that follow it. After a refusal or a
 /// fault it is open what they have: the connection is to be closed. No call that failed is made again. Before
 /// a first byte has come, only the inbox takes memory.
 ///

@@ -150,7 +150,7 @@ pub(crate) fn open_node<R: Files<File = File>>(
 {
     let disk = open_disk(rt, cluster, me, path, making, cause)?;
     match Node::open(alloc, cluster, me, disk) {
-        // it would have forgotten what it promised behind the gate that an accident shut
+        // it would have forgotten what it promised after the gate that an accident shut
         Ok(node) if node.is_cut_short() => Err(ServerFault::Record(RecordFault::Damaged)),
         Ok(node) => Ok(Served { node }),
         Err((fault, disk)) => {

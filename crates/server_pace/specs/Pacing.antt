@@ -94,7 +94,7 @@ abbrev pub Ticks : Ticking → ℕ → ℕ → Times → Bool → Type 0
 Ticks t now patience times stake =
     (since : ℕ) × (t.since ≡ Some since) × (patience * waited t times stake ≤ now - since)
 
--- A tick was in vain where a majority answered since, and nothing became known before the next one: behind
+-- A tick was in vain where a majority answered since, and nothing became known before the next one: after
 -- each of a row it waits longer. One that no majority answered ends the row
 abbrev pub longer_after : Ticking → Times → Bool → ℕ
 longer_after t times answered =
@@ -108,7 +108,7 @@ ticked t times now answered = record (begun t) {
   longer = longer_after t times answered;
 }
 
--- ---- yields: nodes take turns at the first unknown instance, by their numbers, with 1 behind 9
+-- ---- yields: nodes take turns at the first unknown instance, by their numbers, with 1 after 9
 
 -- it saw no attempt
 abbrev pub first_yielding : Yielding
@@ -141,7 +141,7 @@ noted_tries y now (Some q) =
       free = None;
     }
 
--- one that tried comes before this server, behind the one that tried last
+-- one that tried comes before this server, after the one that tried last
 pub record IsBehind (y : Yielding) (me : ℕ) : Type 0 where
   pub last : ℕ
   pub node : ℕ
@@ -194,7 +194,7 @@ resting_of p came served = record { came = came; served = served; stirred = p.st
 
 -- ---- a pace, and what is due
 
--- behind a batch that delivered so many messages of attempts, and so many that are no questions
+-- after a batch that delivered so many messages of attempts, and so many that are no questions
 abbrev pub heard : Pace → ℕ → ℕ → Pace
 heard p attempts stirs = record p {
   last = record p.last { tried = p.last.tried || nat_lt 0 attempts };
@@ -271,7 +271,7 @@ first_pace times n node recorded = record {
 abbrev pub IsAnswered : Pace → Type 0
 IsAnswered p = p.cluster / 2 + 1 ≤ count_of p.answered
 
--- a tick that was due is one of those behind which more patience is had; one for a value that is fresh, or at
+-- a tick that was due is one of those after which more patience is had; one for a value that is fresh, or at
 -- once, is not
 abbrev pub ticking_after : Times → Ticking → ℕ → Due → LastCall → Ticking
 ticking_after times t now due TickOrAsk =
@@ -348,13 +348,13 @@ teller_of p now seen = record {
   calm = not p.last.tried;
 }
 
--- nobody is told in the step behind a telling, nor where something goes first; else the next one may be
+-- nobody is told in the step after a telling, nor where something goes first; else the next one may be
 abbrev pub IsTelling : Pace → ℕ → Node → ℕ → Seen → Bool → Option (ℕ × ℕ) → Questions → Type 0
 IsTelling p n s now seen waits telling new =
     ((waits ≡ true) × (telling ≡ None) × (new ≡ p.questions))
     ⊎ ((waits ≡ false) × TellsNext p.questions (teller_of p now seen) n s telling new)
 
--- This is called behind the turns of a batch that begins now, by a server in a group of n, over this node;
+-- This is called after the turns of a batch that begins now, by a server in a group of n, over this node;
 -- and that is its pace then
 pub record CallsDue (old : Pace) (n : ℕ) (s : Node) (now : ℕ) (drained : Bool) (last : LastCall)
     (new : Pace) : Type 0 where

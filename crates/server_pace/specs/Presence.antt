@@ -20,7 +20,7 @@ AreHeard came at now new = (i : ℕ) → i < 9
 abbrev pub is_there : List (Option ℕ) → Times → ℕ → ℕ → Bool
 is_there at times now q = not (passed (get_or at (q - 1) None) now times.silent)
 
--- it is there, and behind node p it comes before this one
+-- it is there, and after node p it comes before this one
 abbrev pub comes_before : List (Option ℕ) → Times → ℕ → ℕ → ℕ → ℕ → Bool
 comes_before at times now p me q = is_there at times now q && nat_lt (places_behind p q) (places_behind p me)
 

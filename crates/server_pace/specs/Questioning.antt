@@ -138,7 +138,7 @@ pub record IsNextTo (q : Questions) (teller : Teller) (n : ℕ) (s : Node) (p : 
   pub first : next.first ≡ next.course.next
   pub count : next.count ≡ told_count teller.known next.course.next (covered_from s next.course.next)
 
--- it comes first behind the node that was told last
+-- it comes first after the node that was told last
 abbrev pub IsFirstDue : Questions → Teller → ℕ → Node → Next → Type 0
 IsFirstDue q teller n s next =
     (p : ℕ) × IsNextTo q teller n s p next
@@ -148,7 +148,7 @@ IsFirstDue q teller n s next =
 abbrev pub NobodyIsDue : Questions → Teller → ℕ → Node → Type 0
 NobodyIsDue q teller n s = (p : ℕ) (c : Course) → IsNode n p → ¬ IsDueTo q teller s p c
 
--- from then on it is told behind that
+-- from then on it is told after that
 abbrev pub told_so : Questions → Next → Questions
 told_so q next =
     record q { courses = set q.courses (next.to - 1) (Some (told_on next.course next.count)); last = next.to }

@@ -1,4 +1,4 @@
-//! What a server calls behind the turns of a batch.
+//! What a server calls after the turns of a batch.
 
 ghost use Rattle.std.specs.Prelude.{◌≡◌};
 ghost use Rattle.server_pace.specs.Turns.{call_behind, goes_first};

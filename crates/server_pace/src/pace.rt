@@ -31,7 +31,7 @@ use site_ids::{Cluster, Instance, NodeId, NodeSet};
 
 /// What was tried, asked, heard and told, by whom and when.
 ///
-/// A step calls `due`, then `hear` behind its batch, and then `rest`. Its moments are milliseconds since the
+/// A step calls `due`, then `hear` after its batch, and then `rest`. Its moments are milliseconds since the
 /// server began, none of them less than the one before.
 #[derive(Clone, Copy, Drop)]
 pub struct Pace {
@@ -93,7 +93,7 @@ impl Pace {
         }
     }
 
-    /// Behind a batch: what it delivered.
+    /// After a batch: what it delivered.
     pub fn hear(&mut self, delivered: &Delivered)
         ensures { HearsBatch self.old delivered.now self.new }
     {
@@ -110,7 +110,7 @@ impl Pace {
         self.stirred |= stirs != 0;
     }
 
-    /// What is called behind the turns of the next batch, which begins now, where all that had come was taken
+    /// What is called after the turns of the next batch, which begins now, where all that had come was taken
     /// in by the last one, or not. What is called counts from now on. A value that was just submitted is
     /// tried at once where nobody tries one and it is no other server's turn.
     pub fn due<D: Disk>(&mut self, now: u64, node: &Node<D>, drained: bool) -> LastCall
@@ -240,7 +240,7 @@ impl Pace {
         last
     }
 
-    /// What stands of ticks behind one: for a value that is fresh, or at once, or as it was due.
+    /// What stands of ticks after one: for a value that is fresh, or at once, or as it was due.
     fn ticked(&self, now: u64, due: &Due) -> Ticking
         ensures { result ≡ ticking_after self.now.times self.now.ticking now due.now TickOrAsk }
     {

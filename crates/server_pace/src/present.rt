@@ -70,7 +70,7 @@ impl Present {
         !has_passed(self.at[usize::from(number) - 1], now, times.silent)
     }
 
-    /// Whether it is, and behind that node comes before this one.
+    /// Whether it is, and after that node comes before this one.
     fn comes_before(&self, times: Times, now: u64, to: NodeId, me: NodeId, number: u8) -> bool
         requires { (1 ≤ number) × (number ≤ 9) }
         ensures { result ≡ comes_before self.now.at times now to me number }

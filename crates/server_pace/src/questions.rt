@@ -249,7 +249,7 @@ impl Questions {
         self.next_to(teller, node, to)
     }
 
-    /// The first of them, behind the node that was told last.
+    /// The first of them, after the node that was told last.
     fn first_due<D: Disk>(&self, teller: &Teller, node: &Node<D>) -> Option<Next>
         ensures some { IfSome result (λ next. (s : AbstractNode) → IsNodeOf node.now s
             → IsFirstDue self.now teller.now node.now.cluster s next) }

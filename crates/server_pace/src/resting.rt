@@ -1,6 +1,6 @@
 //! When a server rests.
 //!
-//! Rests grow behind 200 empty passes and 2,000: at 1.5 ms throughout quiet nodes cost 4.3 to 6.9% of a core,
+//! Rests grow after 200 empty passes and 2,000: at 1.5 ms throughout quiet nodes cost 4.3 to 6.9% of a core,
 //! so 1.6 to 2.0.
 
 ghost use Rattle.std.specs.Prelude.{◌≡◌, ◌↔◌, IsTrue, false};

@@ -25,7 +25,7 @@ pub struct Ticking {
     /// So many values were known as it ticked last, if it did: as that was due, for a value that was fresh,
     /// or at once.
     pub at: Option<u32>,
-    /// One instance became known behind its last tick, by its own ballot, and its record had a vote further
+    /// One instance became known after its last tick, by its own ballot, and its record had a vote further
     /// on.
     pub resumes: bool,
 }

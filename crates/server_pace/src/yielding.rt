@@ -88,7 +88,7 @@ impl Yielding {
         self.free = None;
     }
 
-    /// Whether one that tried comes before this server, behind the one that tried last.
+    /// Whether one that tried comes before this server, after the one that tried last.
     fn is_behind(&self, me: NodeId) -> bool
         ensures { IsTrue result ↔ IsBehind self.now me }
     {

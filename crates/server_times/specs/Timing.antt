@@ -12,7 +12,7 @@ passed (Some since) now millis = nat_le millis (now - since)
 abbrev pub patience_of : Times → ℕ → ℕ
 patience_of times node = min (times.patience * (node + 1)) (2 ^ 64 - 1) / 2
 
--- behind a question that brought nothing; empty is how many steps went by in which nothing came
+-- after a question that brought nothing; empty is how many steps went by in which nothing came
 abbrev pub asks_after : Times → ℕ → ℕ
 asks_after times empty = if nat_lt empty times.quiet then times.asking else times.quiet_asking
 

@@ -8,7 +8,7 @@ ghost use Rattle.server_times.specs.declared.times.TheConstants.{STANDARD};
 /// All that a server waits for, in one place.
 #[derive(Clone, Copy, Debug, PartialEq, Eq, Drop)]
 pub struct Times {
-    /// Milliseconds without news behind which it tries a value again, at least: more at greater numbers
+    /// Milliseconds without news after which it tries a value again, at least: more at greater numbers
     /// (`Pace`). An option of the command line; the servers of a group may have different ones.
     pub patience: u64,
     /// The patience grows with the tries that brought no news, up to so many times (`Ticking`).
@@ -46,7 +46,7 @@ pub struct Times {
     pub keeping: u64,
     /// So many values do not wait for others (`Keeping`).
     pub block: u32,
-    /// Milliseconds for which a node is sent packets behind one that came of it: so one that reads none, or
+    /// Milliseconds for which a node is sent packets after one that came of it: so one that reads none, or
     /// no longer, gets datagrams (`Peers`).
     pub packets: u64,
     /// Milliseconds between two packets that another node is sent at least, so that it learns that this one
@@ -54,10 +54,10 @@ pub struct Times {
     pub showing: u64,
     /// Milliseconds in a stretch for which it yields to others that try, at most (`Yielding`).
     pub yielding: u64,
-    /// Behind so many steps in which nothing came it is idle: more than a client takes to come again
+    /// After so many steps in which nothing came it is idle: more than a client takes to come again
     /// (`Pace::rest`).
     pub idle: u32,
-    /// Behind so many it is quiet: some three seconds (`Pace::rest`).
+    /// After so many it is quiet: some three seconds (`Pace::rest`).
     pub quiet: u32,
     /// For so many steps in which nothing came, one after another, it does not rest: a client that was
     /// answered comes again at once, and so does another node's message (`Pace::rest`).
@@ -65,7 +65,7 @@ pub struct Times {
     /// So it is with so many clients at most. With more it rests after each such step: meanwhile several come,
     /// and the next step answers them together (`Pace::rest`).
     pub few: usize,
-    /// Microseconds that it rests behind a step in which nothing came, while it is busy (`Pace::rest`).
+    /// Microseconds that it rests after a step in which nothing came, while it is busy (`Pace::rest`).
     pub rest: u64,
     /// The same where it is idle.
     pub idle_rest: u64,
@@ -83,14 +83,14 @@ pub struct Times {
     /// Milliseconds for which a server that begins leaves requests, at most, while it knows less than its
     /// record has (`Returning`).
     pub returning: u64,
-    /// Milliseconds for which what a client still sends behind its last response is read and dropped, at
+    /// Milliseconds for which what a client still sends after its last response is read and dropped, at
     /// most, so that the response is not lost (RFC 9112, section 9.6): a client that reads it closes within
     /// that (`Linger`).
     pub lingering: u64,
     /// Milliseconds for which a request keeps a seat from others: one that takes longer, as its client sends
     /// or reads slowly, goes for another client where all seats are taken (`Seats::make_room`).
     pub keeps_seat: u64,
-    /// Milliseconds for which a request for a receipt that is not there yet is left, behind the last bytes
+    /// Milliseconds for which a request for a receipt that is not there yet is left, after the last bytes
     /// that its client sent: most values are known by then, and a client asks once.
     pub receipts: u64,
     /// Milliseconds, after the last bytes that its client sent, for which the responses before such a request
@@ -173,7 +173,7 @@ impl Times {
         self.patience.saturating_mul(u64::from(node) + 1) / 2
     }
 
-    /// How many milliseconds behind a question that brought nothing the next one comes, after so many steps
+    /// How many milliseconds after a question that brought nothing the next one comes, after so many steps
     /// in which nothing came.
     pub fn asks_after(self, empty: u32) -> u64
         ensures { result ≡ asks_after self empty }
@@ -185,7 +185,7 @@ impl Times {
         }
     }
 
-    /// How many milliseconds behind a question the next one comes, if it is behind and knows no more: after
+    /// How many milliseconds after a question the next one comes, if it is behind and knows no more: after
     /// so many questions in a row for one instance, and so many steps in which nothing came.
     pub fn asks_again_after(self, again: u32, empty: u32) -> u64
         ensures is { result ≡ asks_again_after self again empty }

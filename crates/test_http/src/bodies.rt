@@ -1,7 +1,7 @@
 //! Bodies by length and by chunks.
 use crate::pieces::{Row, check};
 
-/// What follows `POST /p HTTP/1.1` and a Host line: a Content-Length line and what stands behind the head.
+/// What follows `POST /p HTTP/1.1` and a Host line: a Content-Length line and what stands after the head.
 const BY_LENGTH: &[Row] = &[
     ("Content-Length: 3\r\n\r\nabc", "POST /p with abc"),
     (
@@ -25,7 +25,7 @@ const BY_CHUNKS: &[Row] = &[
     ("A\r\n0123456789\r\n0\r\n\r\n", "POST /p with 0123456789"),
     ("a\r\n0123456789\r\n0\r\n\r\n", "POST /p with 0123456789"),
     ("0000000000000001\r\na\r\n0\r\n\r\n", "POST /p with a"),
-    // Chunk extensions are passed over, and spaces behind the size.
+    // Chunk extensions are passed over, and spaces after the size.
     ("3;x=y\r\nabc\r\n0;z\r\n\r\n", "POST /p with abc"),
     ("3 \t\r\nabc\r\n0\r\n\r\n", "POST /p with abc"),
     ("3 ;\r\nabc\r\n0\r\n\r\n", "POST /p with abc"),
@@ -71,7 +71,7 @@ const BY_CHUNKS: &[Row] = &[
     ("0\r\nA: b\r\n\r", "ended early"),
 ];
 
-/// What follows a head of HEAD with chunked coding: a refusal says that it is of HEAD also behind the head.
+/// What follows a head of HEAD with chunked coding: a refusal says that it is of HEAD also after the head.
 const BEHIND_HEAD: &[Row] = &[
     ("3\r\nabc\r\n0\r\n\r\n", "HEAD / with abc"),
     ("9C41\r\n", "413 to HEAD"),

@@ -9,7 +9,7 @@ const FIRST: &str = "GET /%68?x HTTP/1.1\r\nHost: a\r\n\r\n";
 const SUBMISSION: &str =
     "POST /_submit/1/5 HTTP/1.1\r\nHost: a\r\nTransfer-Encoding: chunked\r\n\r\n4\r\nrele\r\n4\r\nase\n\r\n0\r\n\r\n";
 
-/// The one request of a reader comes to that, behind so many calls that failed.
+/// The one request of a reader comes to that, after so many calls that failed.
 fn check_alone(
     rt: &impl Abort,
     alloc: Global,
@@ -61,7 +61,7 @@ fn check_failures(rt: &impl Abort, alloc: Global, whole: &[u8]) {
     }
 }
 
-/// One in place of the call behind the last byte isn't made.
+/// One in place of the call after the last byte isn't made.
 fn check_last(rt: &impl Abort, alloc: Global, whole: &[u8], expected: &str) {
     let reader = in_pieces(whole, 1, 1, whole.len());
     check_alone(rt, alloc, reader, expected, 0, whole.len());

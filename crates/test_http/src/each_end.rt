@@ -6,7 +6,7 @@ use http_serve::ServeFault;
 use std::process::Abort;
 use test_ends::in_pieces;
 
-/// Cut into two behind each byte, and in pieces of each size, these bytes are answered so.
+/// Cut into two after each byte, and in pieces of each size, these bytes are answered so.
 pub(crate) fn answers_in_pieces(
     rt: &impl Abort,
     desk: &mut Desk<'_>,
@@ -19,7 +19,7 @@ pub(crate) fn answers_in_pieces(
     }
 }
 
-/// Cut off within the bytes, behind so many of them or more, the input ended early, and that is written.
+/// Cut off within the bytes, after so many of them or more, the input ended early, and that is written.
 pub(crate) fn ends_early(
     rt: &impl Abort,
     desk: &mut Desk<'_>,
@@ -33,7 +33,7 @@ pub(crate) fn ends_early(
     }
 }
 
-/// A reader that gives a byte a call and fails behind so many is a fault of the reader, and that is written.
+/// A reader that gives a byte a call and fails after so many is a fault of the reader, and that is written.
 pub(crate) fn fails_behind(
     rt: &impl Abort,
     desk: &mut Desk<'_>,
@@ -45,7 +45,7 @@ pub(crate) fn fails_behind(
     reads(rt, desk, reader, Err(ServeFault::Read), written, good);
 }
 
-/// So is one that fails within the bytes, behind so many of them or more.
+/// So is one that fails within the bytes, after so many of them or more.
 pub(crate) fn fails_to_read(
     rt: &impl Abort,
     desk: &mut Desk<'_>,
@@ -58,7 +58,7 @@ pub(crate) fn fails_to_read(
     }
 }
 
-/// A writer that fails behind each number of bytes is a fault of the writer, and those are written.
+/// A writer that fails after each number of bytes is a fault of the writer, and those are written.
 pub(crate) fn fails_to_write(rt: &impl Abort, desk: &mut Desk<'_>, bytes: &[u8], written: &[u8]) {
     for room in 0..written.len() {
         let begun = &written[..room];

@@ -1,7 +1,7 @@
 //! Heads: request lines, fields, the tests in their order.
 use crate::pieces::{Row, check};
 
-/// Request lines, with one Host line behind them.
+/// Request lines, with one Host line after them.
 const LINES: &[Row] = &[
     ("GET /%68?x HTTP/1.1\r\n", "GET /h"),
     ("HEAD /%68?x HTTP/1.1\r\n", "HEAD /h"),
@@ -33,7 +33,7 @@ const LINES: &[Row] = &[
     ("DELETE /#a HTTP/1.1\r\n", "501"),
 ];
 
-/// Field lines behind `GET / HTTP/1.1`, up to the empty line.
+/// Field lines after `GET / HTTP/1.1`, up to the empty line.
 const FIELDS: &[Row] = &[
     ("Host: a\r\n", "GET /"),
     ("host:a\r\n", "GET /"),
@@ -105,7 +105,7 @@ const FIELDS: &[Row] = &[
     ("Host: a\r\nContent-Length: 99999999999999999999\r\n", "413"),
 ];
 
-/// Connection lines behind `GET / HTTP/1.1` and a Host line: the word `close` closes, between commas and in
+/// Connection lines after `GET / HTTP/1.1` and a Host line: the word `close` closes, between commas and in
 /// any case.
 const CONNECTIONS: &[Row] = &[
     ("", "GET /"),
@@ -128,7 +128,7 @@ const CONNECTIONS: &[Row] = &[
     ("Proxy-Connection: close\r\n", "GET /"),
 ];
 
-/// The same behind `GET / HTTP/1.0`: it closes in any case.
+/// The same after `GET / HTTP/1.0`: it closes in any case.
 const OLD_CONNECTIONS: &[Row] = &[
     ("Connection: keep-alive\r\n", "GET / and closes"),
     ("Connection: close\r\n", "GET / and closes"),

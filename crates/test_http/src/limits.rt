@@ -4,7 +4,7 @@ use crate::texts::{joined, times};
 use std::alloc::Global;
 use std::process::Abort;
 
-/// What stands before, a part, how often, what stands behind, and what that comes to.
+/// What stands before, a part, how often, what stands after, and what that comes to.
 type Row = (
     &'static str,
     &'static str,
@@ -65,7 +65,7 @@ const FIELD_LINES: &[Row] = &[
 
 const CHUNKED: &str = "POST / HTTP/1.1\r\nHost: a\r\nTransfer-Encoding: chunked\r\n\r\n";
 
-/// Behind `CHUNKED`.
+/// After `CHUNKED`.
 const CHUNK_LINES: &[Row] = &[
     // 256 bytes with the line feed, and one more.
     ("0;", "a", 252, "\r\n\r\n", "POST /"),
@@ -75,7 +75,7 @@ const CHUNK_LINES: &[Row] = &[
     ("0;", "a", 254, "", "400"),
 ];
 
-/// Behind `CHUNKED`.
+/// After `CHUNKED`.
 const TRAILERS: &[Row] = &[
     ("0\r\n", "A: b\r\n", 64, "\r\n", "POST /"),
     ("0\r\n", "A: b\r\n", 65, "\r\n", "431"),
@@ -88,7 +88,7 @@ const TRAILERS: &[Row] = &[
     ("0\r\nA: ", "a", 8_190, "", "431"),
 ];
 
-/// The row's request, behind these bytes.
+/// The row's request, after these bytes.
 fn check_row(rt: &impl Abort, alloc: Global, ahead: &str, row: &Row) {
     let middle = times(rt, alloc, row.1, row.2);
     let front = joined(rt, alloc, ahead, row.0, middle.as_str());
@@ -135,7 +135,7 @@ fn check_by_length(rt: &impl Abort, alloc: Global, letters: &str) {
     check_letters(rt, alloc, text.as_str(), letters);
 }
 
-/// Chunks, behind the head.
+/// Chunks, after the head.
 fn chunked(rt: &impl Abort, alloc: Global, chunks: &str) -> String {
     joined(rt, alloc, CHUNKED, chunks, "0\r\n\r\n")
 }
@@ -146,7 +146,7 @@ fn check_in_a_chunk(rt: &impl Abort, alloc: Global, letters: &str) {
     check_letters(rt, alloc, text.as_str(), letters);
 }
 
-/// 40,000 letters, whole behind a head and in one chunk.
+/// 40,000 letters, whole after a head and in one chunk.
 #[test]
 fn bodies(rt: HostRuntime) {
     let letters = times(&rt, rt.alloc(), "a", 40_000);

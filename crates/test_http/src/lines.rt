@@ -44,7 +44,7 @@ fn check_pieces(
     check(rt, desk, reader, AMPLE, written, answered, first);
 }
 
-/// Two requests, cut into two behind each byte and in pieces of each size.
+/// Two requests, cut into two after each byte and in pieces of each size.
 fn check_cuts(rt: &impl Abort, desk: &mut Desk<'_>, both: &[u8], pages: &[u8]) {
     for cut in 0..=both.len() {
         check_pieces(rt, desk, both, cut, cut, pages, 2);
@@ -67,14 +67,14 @@ fn check_begun(rt: &impl Abort, desk: &mut Desk<'_>, begun: &[u8]) {
     check(rt, desk, whole(BOTH), writer, begun, 2, room);
 }
 
-/// Writers that fail behind each number of bytes.
+/// Writers that fail after each number of bytes.
 fn check_broken(rt: &impl Abort, desk: &mut Desk<'_>) {
     for room in 0..BOTH_PAGES.len() {
         check_begun(rt, desk, &BOTH_PAGES[..room]);
     }
 }
 
-/// A client that sends no more behind so many bytes, and a reader that fails there: what was whole is
+/// A client that sends no more after so many bytes, and a reader that fails there: what was whole is
 /// answered.
 fn check_short(rt: &impl Abort, desk: &mut Desk<'_>, len: usize, written: &[u8], answered: u32) {
     let front = whole(&BOTH[..len.min(BOTH.len())]);
@@ -83,7 +83,7 @@ fn check_short(rt: &impl Abort, desk: &mut Desk<'_>, len: usize, written: &[u8],
     check(rt, desk, failing, AMPLE, written, answered, len);
 }
 
-/// The same behind each number of bytes from this one on, up to that one.
+/// The same after each number of bytes from this one on, up to that one.
 fn check_each_short(
     rt: &impl Abort,
     desk: &mut Desk<'_>,
@@ -118,7 +118,7 @@ const POST: &[u8] = b"POST /_submit/1/5 HTTP/1.1\r\nHost: a\r\nContent-Length: 8
 pub(crate) const QUEUED: &[u8] =
     b"HTTP/1.1 202 Accepted\r\nContent-Type: text/plain; charset=utf-8\r\nContent-Length: 7\r\n\r\nqueued\n";
 
-/// A submission cut behind this byte is taken once, and told once, by a writer that takes a byte at a time.
+/// A submission cut after this byte is taken once, and told once, by a writer that takes a byte at a time.
 fn check_taken(rt: &impl Abort, mut desk: Desk<'_>, cut: usize) {
     let reader = in_pieces(POST, cut, usize::MAX, usize::MAX);
     check(rt, &mut desk, reader, (usize::MAX, 1), QUEUED, 1, cut);
@@ -149,8 +149,8 @@ fn a_submission_cut_short(rt: HostRuntime) {
     drop(desk);
 }
 
-/// What a client sends, and what is written for it: nothing behind a last response is answered, and no
-/// submission behind it is taken.
+/// What a client sends, and what is written for it: nothing after a last response is answered, and no
+/// submission after it is taken.
 const LAST: &[(&str, &str)] = &[
     (
         "GET /h HTTP/1.1\r\n\r\nPOST /_submit/1/5 HTTP/1.1\r\nHost: a\r\nContent-Length: 8\r\n\r\nrelease\n",

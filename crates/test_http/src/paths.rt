@@ -117,7 +117,7 @@ const RESERVED: &[&str] = &[
     "/@18446744073709551616/",
 ];
 
-/// The method, with a space behind it, and the path have this response, or its head alone.
+/// The method, with a space after it, and the path have this response, or its head alone.
 fn check_method(
     rt: &impl Abort,
     desk: &mut Desk<'_>,

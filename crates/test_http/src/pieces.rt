@@ -195,7 +195,7 @@ impl Input<'_> {
 /// A part of a request, and what the request comes to.
 pub(crate) type Row = (&'static str, &'static str);
 
-/// Bytes, what they come to, and what is left behind them, if they are a request.
+/// Bytes, what they come to, and what is left after them, if they are a request.
 #[derive(Drop)]
 struct Case<'a> {
     text: &'a str,
@@ -274,7 +274,7 @@ fn behind(expected: &str) -> &'static str {
     "next"
 }
 
-/// Reads one request in every way. More bytes that follow it are left behind a request.
+/// Reads one request in every way. More bytes that follow it are left after a request.
 pub(crate) fn check_one(rt: &impl Abort, alloc: Global, bytes: &str, expected: &str) {
     let left = behind(expected);
     let text = joined(rt, alloc, bytes, left, "");

@@ -50,7 +50,7 @@ const TOO_LARGE: &Row = &("413 Content Too Large", PLAIN, "", CLOSE, "too large\
 
 const BEGUN: &str = "GET /h HTTP/1.1\r\nHost: a\r\n";
 
-/// What stands behind `BEGUN`, and its refusal.
+/// What stands after `BEGUN`, and its refusal.
 const REFUSED: &[(&str, &Row)] = &[
     ("Transfer-Encoding: gzip\r\n\r\n", BAD_REQUEST),
     ("Transfer-Encoding: gzip, chunked\r\n\r\n", NOT_IMPLEMENTED),
@@ -62,7 +62,7 @@ const REFUSED: &[(&str, &Row)] = &[
     ("Transfer-Encoding: chunked\r\n\r\n9C41\r\n", TOO_LARGE),
 ];
 
-/// Heads that are too long, for 414 and for 431: what stands before 8,188 letters and behind them, and the
+/// Heads that are too long, for 414 and for 431: what stands before 8,188 letters and after them, and the
 /// refusal.
 const LONG: &[(&str, &str, Row)] = &[
     (

@@ -11,7 +11,7 @@ const REQUEST: &[u8] = b"GET /%68?x HTTP/1.1\r\nHost: a\r\n\r\n";
 const RESPONSE: &[u8] =
     b"HTTP/1.1 200 OK\r\nContent-Type: text/html; charset=utf-8\r\nContent-Length: 3\r\n\r\nHi\n";
 
-/// One that fails behind the last byte is a fault within the next request: the response stands.
+/// One that fails after the last byte is a fault within the next request: the response stands.
 fn check_readers(rt: &impl Abort, desk: &mut Desk<'_>, request: &[u8], response: &[u8]) {
     let nothing: &[u8] = b"";
     answers_in_pieces(rt, desk, request, response);

@@ -1,4 +1,4 @@
-//! Several requests on a connection: responses one behind another, when it is closed, and what stands after a
+//! Several requests on a connection: responses one after another, when it is closed, and what stands after a
 //! fault.
 use crate::comparing::same;
 use crate::desk::{Desk, open_desk, took};
@@ -29,7 +29,7 @@ const TWO_SUBMISSIONS: &[u8] =
 const BOTH_QUEUED: &[u8] =
     b"HTTP/1.1 202 Accepted\r\nContent-Type: text/plain; charset=utf-8\r\nContent-Length: 7\r\n\r\nqueued\nHTTP/1.1 202 Accepted\r\nContent-Type: text/plain; charset=utf-8\r\nContent-Length: 7\r\n\r\nqueued\n";
 
-/// What a client sends, what is written, and how it ends: a further request behind each closing one isn't
+/// What a client sends, what is written, and how it ends: a further request after each closing one isn't
 /// answered.
 const ENDS: &[(&str, &str, Outcome)] = &[
     ("", "", Err(ServeFault::EndedEarly)),
@@ -54,7 +54,7 @@ const ENDS: &[(&str, &str, Outcome)] = &[
         BAD,
         Ok(()),
     ),
-    // A submission behind a refused request, and one that is refused itself, are not taken.
+    // A submission after a refused request, and one that is refused itself, are not taken.
     (
         "GET /h HTTP/1.1\r\n\r\nPOST /_submit/1/5 HTTP/1.1\r\nHost: a\r\nContent-Length: 8\r\n\r\nrelease\n",
         BAD,
@@ -67,7 +67,7 @@ const ENDS: &[(&str, &str, Outcome)] = &[
     ),
 ];
 
-/// Cut off behind each byte: what was whole is answered.
+/// Cut off after each byte: what was whole is answered.
 fn check_short(rt: &impl Abort, desk: &mut Desk<'_>) {
     let (one, page) = (GET.as_bytes(), PAGE.as_bytes());
     ends_early(rt, desk, one, 0, b"");
@@ -168,7 +168,7 @@ impl Client<'_> {
         )
     }
 
-    /// The turn behind so many answers comes to that.
+    /// The turn after so many answers comes to that.
     fn turns(&mut self, rt: &impl Abort, desk: &mut Desk<'_>, answered: u32, next: Next) {
         same(rt, self.turn(desk, answered), Ok(next));
     }

@@ -1,4 +1,4 @@
-//! Several requests on one connection: behind each the inbox and the reader have what follows it.
+//! Several requests on one connection: after each the inbox and the reader have what follows it.
 use crate::pieces::Input;
 use crate::texts::{joined, times};
 use std::alloc::Global;
@@ -71,7 +71,7 @@ const BOTH: &[u8] =
 
 const FIRST: usize = 51;
 
-/// Both come at once, the second cut off behind so many bytes.
+/// Both come at once, the second cut off after so many bytes.
 fn check_end(rt: &impl Abort, alloc: Global, bytes: &[u8], second: &str) {
     check_each(rt, alloc, bytes, usize::MAX, &["POST /a with abc", second]);
 }
@@ -85,7 +85,7 @@ fn the_second_cut_off(rt: HostRuntime) {
     check_end(&rt, rt.alloc(), BOTH, "POST /b with de");
 }
 
-/// Line breaks behind a request begin another one.
+/// Line breaks after a request begin another one.
 #[test]
 fn line_breaks_alone(rt: HostRuntime) {
     check_each(&rt, rt.alloc(), b"", 1, &["ended"]);

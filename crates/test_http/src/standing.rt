@@ -5,7 +5,7 @@ use http_read::{Awaited, Incoming};
 use std::alloc::Global;
 use std::process::Abort;
 
-/// A piece that makes no request whole, and where the reading stands behind it: `None` within a head.
+/// A piece that makes no request whole, and where the reading stands after it: `None` within a head.
 type Row = (&'static str, Option<Awaited>);
 
 /// Whether what came is the request of that body, or nothing.

@@ -2,7 +2,7 @@
 use std::alloc::Global;
 use std::process::Abort;
 
-/// Three texts, one behind the other.
+/// Three texts, one after the other.
 pub(crate) fn joined(
     rt: &impl Abort,
     alloc: Global,

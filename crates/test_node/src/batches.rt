@@ -55,7 +55,7 @@ const NONE: &[Step] = &[
     Step::Last(3, Said::Promise(1)),
 ];
 
-/// Steps before and behind a crash by a choice, or without one.
+/// Steps before and after a crash by a choice, or without one.
 fn find(rt: &impl Abort, alloc: Global, before: &[&[Step]], crash: Option<u8>, behind: &[Step]) {
     act_all(rt, &mut reopened(rt, alloc, before, crash), behind);
 }
@@ -77,7 +77,7 @@ fn a_device_fails_at_each_call_of_a_seal(rt: HostRuntime) {
     find(&rt, rt.alloc(), &[JUDGED, SEALED], Some(0), ALL);
 }
 
-/// Calls behind a seal, and a batch that puts nothing on record: it passes over a device that fails at once.
+/// Calls after a seal, and a batch that puts nothing on record: it passes over a device that fails at once.
 const GOES_ON: &[Step] = &[
     Step::Calls(Call::Seal),
     Step::Hears(Heard::Prepare(3, 1, 1, 3)),
@@ -89,7 +89,7 @@ const GOES_ON: &[Step] = &[
     Step::Calls(Call::Seal),
 ];
 
-/// The same as all, where round 3 was promised behind the seal.
+/// The same as all, where round 3 was promised after the seal.
 const ALL_AND_MORE: &[Step] = &[
     Step::Calls(Call::Tick),
     Step::Last(0, Said::Prepare(1, 2, 1)),

@@ -3,7 +3,7 @@
 /// After how many calls the device fails, a choice of the crash, whether what was put is found.
 type Failure = (u32, Option<u8>, bool);
 
-/// After so many calls the device fails. Then the node is opened again, behind a crash by a choice or without
+/// After so many calls the device fails. Then the node is opened again, after a crash by a choice or without
 /// one: what was put is found only where its gate was written and not lost.
 pub(crate) const FAILURES: &[Failure] = &[
     (0, Some(0), false),

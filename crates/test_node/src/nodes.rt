@@ -119,7 +119,7 @@ pub(crate) fn shows(node: &Node<MemDisk>, path: &str, status: u16, body: &str) -
     is_page(&node.answer(node.newest(), path), status, body)
 }
 
-/// The disk of a node that is closed, behind a crash by that choice, or without one.
+/// The disk of a node that is closed, after a crash by that choice, or without one.
 fn closed(node: Box<Node<MemDisk>>, crash: Option<u8>) -> MemDisk {
     let mut disk = Box::into_inner(node).close();
     match crash {
@@ -129,7 +129,7 @@ fn closed(node: Box<Node<MemDisk>>, crash: Option<u8>) -> MemDisk {
     disk
 }
 
-/// Node 1, closed and opened again, behind a crash by that choice, or without one.
+/// Node 1, closed and opened again, after a crash by that choice, or without one.
 pub(crate) fn again(
     rt: &impl Abort,
     alloc: Global,

@@ -67,7 +67,7 @@ impl Peer {
         }
     }
 
-    /// Closed and opened again, behind a crash by that choice, or without one.
+    /// Closed and opened again, after a crash by that choice, or without one.
     pub(crate) fn again(self, rt: &impl Abort, crash: Option<u8>) -> Peer {
         let Peer { alloc, node, out } = self;
         Peer {

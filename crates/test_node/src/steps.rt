@@ -124,7 +124,7 @@ pub(crate) fn play(rt: &impl Abort, alloc: Global, steps: &[Step]) {
     act_all(rt, &mut Peer::fresh(rt, alloc), steps);
 }
 
-/// A fresh node of three behind these steps, and opened again behind a crash by that choice, or without one.
+/// A fresh node of three after these steps, and opened again after a crash by that choice, or without one.
 pub(crate) fn reopened(
     rt: &impl Abort,
     alloc: Global,
@@ -138,7 +138,7 @@ pub(crate) fn reopened(
     node.again(rt, crash)
 }
 
-/// Steps before and behind a crash that loses what was not synced.
+/// Steps before and after a crash that loses what was not synced.
 pub(crate) fn play_over_a_crash(rt: &impl Abort, alloc: Global, before: &[Step], behind: &[Step]) {
     act_all(rt, &mut reopened(rt, alloc, &[before], Some(0)), behind);
 }

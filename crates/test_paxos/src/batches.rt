@@ -44,7 +44,7 @@ const CRASHES: &[(u32, Option<u8>, u64, bool)] = &[
 /// How many calls pass before one fails, and whether the batch stands for the next opening, without a crash.
 const SEALS: &[(u32, bool)] = &[(0, false), (1, false), (2, false), (3, true)];
 
-/// What a crash chooses behind an opening.
+/// What a crash chooses after an opening.
 const CHOICES: &[u8] = &[0, 1, 7];
 
 const ROUND: Step = Step::Round(1);
@@ -103,7 +103,7 @@ const WRITERS: &[(&[Step], &[u8], usize)] = &[
     ),
 ];
 
-/// Steps behind the last, which a record that stopped refuses.
+/// Steps after the last, which a record that stopped refuses.
 const REFUSED: &[Step] = &[Step::Begin, Step::Round(9), Step::Promise(9, 9), Step::Seal];
 
 /// The record tells these rounds.
@@ -170,7 +170,7 @@ fn finds(rt: &impl Abort, alloc: Global, disk: MemDisk, all: bool) {
     drop(record);
 }
 
-/// The file is so long behind the crash, and the next opening tells what stands.
+/// The file is so long after the crash, and the next opening tells what stands.
 fn crash(rt: &impl Abort, alloc: Global, row: (u32, Option<u8>, u64, bool)) {
     let (calls, choice, length, all) = row;
     let mut record = empty(rt, alloc);
@@ -202,7 +202,7 @@ fn settles(rt: &impl Abort, alloc: Global, calls: u32, choice: u8, all: bool) {
     finds(rt, alloc, crashed_within(record.close(), choice), all);
 }
 
-/// Whatever a crash chooses behind an opening, it keeps what that found.
+/// Whatever a crash chooses after an opening, it keeps what that found.
 #[test]
 fn an_opening_settles_the_batch(rt: HostRuntime) {
     for &(calls, all) in SEALS {

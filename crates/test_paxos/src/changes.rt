@@ -2,7 +2,7 @@
 //!
 //! An entry is spelled by its length, its kind, numbers of fixed lengths and, of a vote and of what was
 //! learned, its value. Where the byte stands in the length, the other entry has a beginning of the value,
-//! since nothing stands behind the last one; in the kind, it is the other one of a promise and a vote for the
+//! since nothing stands after the last one; in the kind, it is the other one of a promise and a vote for the
 //! empty value, or of a round and a floor, a vote for one byte in place of a span's promise, or a learned
 //! value in place of any of these; and else in a number or the value. No record here has a vote for one byte,
 //! or a learned value of none or of more than two.
@@ -129,7 +129,7 @@ fn floor_of(number: u32) -> Option<Entry> {
     Some(Entry::Floor(Instance::new(number)?))
 }
 
-/// How many bytes an entry has behind its kind.
+/// How many bytes an entry has after its kind.
 pub fn places(entry: &Entry) -> usize {
     match entry {
         Entry::Round(_) => 4,
@@ -152,7 +152,7 @@ fn promise(
     Some(Entry::Promised(instance, promised))
 }
 
-/// The entry with this byte at a place behind its kind, where that is an entry.
+/// The entry with this byte at a place after its kind, where that is an entry.
 pub fn changed(
     rt: &impl Abort,
     alloc: Global,
@@ -197,7 +197,7 @@ fn ballot_bytes(ballot: Ballot) -> [u8; 5] {
     [a, b, c, d, ballot.node().number()]
 }
 
-/// A learned value whose bytes are these two behind one another.
+/// A learned value whose bytes are these two after one another.
 fn learned_of(
     rt: &impl Abort,
     alloc: Global,
@@ -211,7 +211,7 @@ fn learned_of(
 }
 
 /// The learned value that is spelled as another entry but for its kind: its instance is the entry's, or its
-/// round, and what stands behind that is its value.
+/// round, and what stands after that is its value.
 fn learned_in(rt: &impl Abort, alloc: Global, entry: &Entry) -> Option<Entry> {
     Some(match entry {
         Entry::Round(round) => learned_of(rt, alloc, Instance::new(*round)?, b"", b""),

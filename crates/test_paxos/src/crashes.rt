@@ -38,7 +38,7 @@ fn put(rt: &impl Abort, record: &mut Record<MemDisk>, calls: u32) {
     }
 }
 
-/// The file is so long behind the crash, and the next opening finds the round.
+/// The file is so long after the crash, and the next opening finds the round.
 fn crash(rt: &impl Abort, alloc: Global, row: (u32, u8, u64, u32)) {
     let (calls, choice, length, round) = row;
     let mut record = empty(rt, alloc);

@@ -42,7 +42,7 @@ const LISTED: &[(usize, u8, Option<(usize, u32, &str)>)] = &[
 /// How many histories are listed, worked out by hand too. At each of the four gates each byte but 1; in each
 /// of the three kinds that of a learned value, in the first that of a floor; in a number each byte but its
 /// own, less those with which it is 0 or an instance above 1,000,000; and a promise's ballot only up to that
-/// of the vote behind it.
+/// of the vote after it.
 const COUNT: usize = 4 * 255
     + (3 + 1)
     // The round; the promise's kind, instance and ballot.
@@ -104,7 +104,7 @@ fn tells_span(record: &Record<MemDisk>, history: &[Entry], first: Instance, coun
     true
 }
 
-/// Whether the record tells the slots of the instances that a history names, and of the one behind a span.
+/// Whether the record tells the slots of the instances that a history names, and of the one after a span.
 fn tells_named(record: &Record<MemDisk>, history: &[Entry]) -> bool {
     for entry in history {
         let told = match entry {
@@ -200,7 +200,7 @@ fn cut_at_each_byte(rt: &impl Abort, alloc: Global, bytes: &[u8], entries: &[Ent
 /// As a put of the last entry that was torn leaves it, a batch of the last two, one of all three, and whole.
 const GATES: &[(usize, u8)] = &[(35, 0), (20, 0), (10, 0), (35, 1)];
 
-/// What stands behind a closed gate isn't read, however many entries it is.
+/// What stands after a closed gate isn't read, however many entries it is.
 #[test]
 fn a_record_cut_at_each_byte(rt: HostRuntime) {
     let alloc = rt.alloc();

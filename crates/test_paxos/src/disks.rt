@@ -47,7 +47,7 @@ pub fn is_long_behind(disk: &mut MemDisk, choice: Option<u8>, length: u64) -> bo
     is_long(disk, length)
 }
 
-/// The disk within, behind a crash by that choice.
+/// The disk within, after a crash by that choice.
 pub fn crashed_within(disk: FailOnce<MemDisk>, choice: u8) -> MemDisk {
     let mut disk = disk.into_inner();
     disk.crash(choice);

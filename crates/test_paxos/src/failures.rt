@@ -1,4 +1,4 @@
-//! One call of a disk fails, and those behind it pass.
+//! One call of a disk fails, and those after it pass.
 use crate::comparing::{ensure, same};
 use crate::disks::{begins, crashed_within, is_long, reads, syncs, writes};
 use crate::samples::ballot;
@@ -14,7 +14,7 @@ use std::process::Abort;
 /// How many calls of a put pass before one fails, and the round of the next opening, without a crash.
 const PUTS: &[(u32, u32)] = &[(0, 0), (1, 0), (2, 0), (3, 1)];
 
-/// What a crash chooses behind an opening.
+/// What a crash chooses after an opening.
 const CHOICES: &[u8] = &[0, 1, 7];
 
 /// A put whose call fails so, and one that is Stopped.
@@ -25,7 +25,7 @@ fn fail_put(rt: &impl Abort, record: &mut Record<FailOnce<MemDisk>>, calls: u32)
     ends(rt, put_round(record, 1), Err(RecordFault::Stopped));
 }
 
-/// The disk behind such a put.
+/// The disk after such a put.
 fn failed_put(rt: &impl Abort, alloc: Global, calls: u32) -> FailOnce<MemDisk> {
     let mut record = opened(rt, alloc, FailOnce::new(formatted(rt, alloc)));
     fail_put(rt, &mut record, calls);
@@ -34,7 +34,7 @@ fn failed_put(rt: &impl Abort, alloc: Global, calls: u32) -> FailOnce<MemDisk> {
     disk
 }
 
-/// The opening behind such a put finds the round, and the next one, behind a crash.
+/// The opening after such a put finds the round, and the next one, after a crash.
 fn settles(rt: &impl Abort, alloc: Global, calls: u32, choice: u8, round: u32) {
     let record = opened(rt, alloc, failed_put(rt, alloc, calls));
     same(rt, (calls, record.round()), (calls, round));
@@ -43,7 +43,7 @@ fn settles(rt: &impl Abort, alloc: Global, calls: u32, choice: u8, round: u32) {
     same(rt, (calls, choice, found), (calls, choice, round));
 }
 
-/// Whatever a crash chooses behind an opening, it keeps what that found.
+/// Whatever a crash chooses after an opening, it keeps what that found.
 #[test]
 fn an_opening_settles_the_entry_in_flight(rt: HostRuntime) {
     for &(calls, round) in PUTS {
@@ -53,7 +53,7 @@ fn an_opening_settles_the_entry_in_flight(rt: HostRuntime) {
     }
 }
 
-/// A call that failed did nothing, and the one behind it is as ever. A call that the disk under it fails
+/// A call that failed did nothing, and the one after it is as ever. A call that the disk under it fails
 /// counts too.
 fn check_calls(rt: &impl Abort, disk: &mut FailOnce<MemDisk>) {
     disk.arm(1);

@@ -180,7 +180,7 @@ fn a_real_file_keeps_a_batch(rt: HostRuntime) {
     fs::remove_file(&rt, BATCH_FILE).expect(&rt, "no file");
 }
 
-/// The reader finds zeros behind an empty record that grew, and then a round in their place.
+/// The reader finds zeros after an empty record that grew, and then a round in their place.
 fn grow(rt: &impl Abort, alloc: Global, file: File, reader: &File) {
     let mut record = made(rt, alloc, file);
     same(rt, record.grow(11), Ok(true));

@@ -78,7 +78,7 @@ const ABOVE_FOUND: &[Step] = &[
     Step::Learned(70, Some("x")),
 ];
 
-/// The record of a disk, behind these steps, is found so at the next opening.
+/// The record of a disk, after these steps, is found so at the next opening.
 fn play(rt: &impl Abort, alloc: Global, disk: MemDisk, steps: &[Step], found: &[Step]) {
     let mut record = opened(rt, alloc, disk);
     take(rt, alloc, &mut record, steps);
@@ -126,7 +126,7 @@ fn a_batch_reaches_once_it_is_sealed(rt: HostRuntime) {
     play(&rt, alloc, disk, &[Step::Reach(0)], &[Step::Reach(0)]);
 }
 
-/// Records of node 2 of three, and why they are refused: behind a round, twice, as 0, as 1,000,001 and
+/// Records of node 2 of three, and why they are refused: after a round, twice, as 0, as 1,000,001 and
 /// 1,000,000, a byte short and one too long.
 const FLOORS: &[(&[u8], Option<RecordFault>)] = &[
     (&FLOORED, None),
@@ -224,7 +224,7 @@ fn each_call_of_a_format_fails(rt: HostRuntime) {
     }
 }
 
-/// Whatever a crash chooses behind a format that a call of the disk ended, it leaves no record, or one with
+/// Whatever a crash chooses after a format that a call of the disk ended, it leaves no record, or one with
 /// the floor.
 fn is_none_or_floor(rt: &impl Abort, alloc: Global, calls: u32, choice: u8) {
     let mut disk = interrupted(rt, alloc, calls);

@@ -34,7 +34,7 @@ fn play(rt: &impl Abort, alloc: Global, before: &[Step], behind: &[Step]) {
 
 const ONE: &[Step] = &[Step::Learn(1, "ab"), Step::Learned(1, Some("ab"))];
 
-/// The disk has these bytes, behind so many calls.
+/// The disk has these bytes, after so many calls.
 fn is_kept(rt: &impl Abort, disk: &mut MemDisk) {
     same(rt, disk.calls().len(), 8);
     ensure(rt, holds(disk, &LEARNED), LEARNED.len());
@@ -78,7 +78,7 @@ fn what_is_learned_stands_beside_votes(rt: HostRuntime) {
     play(&rt, rt.alloc(), BESIDE_VOTES, FOUND);
 }
 
-/// `LEARNED`, with its entry once more behind it.
+/// `LEARNED`, with its entry once more after it.
 const TWICE: &[u8] =
     b"SITEREC1\x02\x03\x01\x00\x00\x00\x07\x06\x00\x00\x00\x01ab\x01\x00\x00\x00\x07\x06\x00\x00\x00\x01ab\x00";
 
@@ -121,7 +121,7 @@ fn put_armed(rt: &impl Abort, alloc: Global, record: &mut Record<MemDisk>, calls
     }
 }
 
-/// The file is so long behind the crash, and the next opening finds the value or not.
+/// The file is so long after the crash, and the next opening finds the value or not.
 fn crash(rt: &impl Abort, alloc: Global, row: (u32, u8, u64, bool)) {
     let (calls, choice, length, kept) = row;
     let mut record = empty(rt, alloc);

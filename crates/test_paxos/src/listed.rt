@@ -178,7 +178,7 @@ impl<'a> Listed<'a> {
     }
 
     /// Lists these entries, which are spelled so, at the first byte by which that differs from the record, or
-    /// else at each byte in the place of the gate behind it.
+    /// else at each byte in the place of the gate after it.
     fn list_spelled(&mut self, rt: &impl Abort, bytes: &[u8], entries: &[Entry]) {
         match first_other(self.record, bytes) {
             Some((place, byte)) => self.list_at(rt, place, byte, entries),

@@ -62,7 +62,7 @@ const MALFORMED: &[&str] = &[
     "0105030000000100000001010000000002",
     // A mark that is neither 0 nor 1.
     "01020200000001000000010302",
-    // A prior behind the mark of none.
+    // A prior after the mark of none.
     "01020200000001000000010300000000010100000000",
     // A length that says more than stands, and one that says less.
     "0104030000000100000002010000000207",
@@ -99,7 +99,7 @@ pub(crate) fn is_written(message: &Message, out: &mut Vec<u8>) -> bool {
     message.fits() && encode(message, out).is_ok()
 }
 
-/// Whether a message is written as these bytes, behind those that stand before it.
+/// Whether a message is written as these bytes, after those that stand before it.
 fn is_spelled(rt: &impl Abort, alloc: Global, message: Message, bytes: &[u8]) -> bool {
     let mut out = b"before".to_vec(alloc).expect(rt, "memory");
     let is_written = is_written(&message, &mut out);
@@ -156,7 +156,7 @@ fn bytes_and(rt: &impl Abort, alloc: Global, text: &str, more: usize) -> Vec<u8>
     bytes
 }
 
-/// These bytes, and so many further ones behind them, are malformed.
+/// These bytes, and so many further ones after them, are malformed.
 fn is_refused(rt: &impl Abort, alloc: Global, text: &str, more: usize) {
     let bytes = bytes_and(rt, alloc, text, more);
     ensure(rt, is_malformed(rt, alloc, &bytes), text);

@@ -22,7 +22,7 @@ fn letter_of(call: &Call) -> u8 {
     }
 }
 
-/// The same promise behind a gate that isn't open.
+/// The same promise after a gate that isn't open.
 const SHUT: [u8; 26] =
     *b"SITEREC1\x02\x03\x07\x00\x00\x00\x0a\x02\x00\x00\x00\x01\x00\x00\x00\x01\x01\x00";
 

@@ -45,7 +45,7 @@ fn finds(rt: &impl Abort, alloc: Global, disk: MemDisk, rounds: &[u32]) {
     drop(record);
 }
 
-/// The disk has these bytes, behind so many calls.
+/// The disk has these bytes, after so many calls.
 fn is_spanned(rt: &impl Abort, disk: &mut MemDisk) {
     same(rt, disk.calls().len(), 8);
     ensure(rt, holds(disk, &SPANNED), SPANNED.len());
@@ -83,7 +83,7 @@ fn a_span_raises_what_is_lower(rt: HostRuntime) {
     play(&rt, rt.alloc(), RAISING, RAISED);
 }
 
-/// `SPANNED`, with its span once more behind it.
+/// `SPANNED`, with its span once more after it.
 const TWICE: &[u8] =
     b"SITEREC1\x02\x03\x01\x00\x00\x00\x0b\x04\x00\x00\x00\x05\x03\x00\x00\x00\x01\x01\x01\x00\x00\x00\x0b\x04\x00\x00\x00\x05\x03\x00\x00\x00\x01\x01\x00";
 
@@ -121,7 +121,7 @@ fn put_armed(rt: &impl Abort, record: &mut Record<MemDisk>, calls: u32) {
     }
 }
 
-/// The file is so long behind the crash, and the next opening keeps the promise or not.
+/// The file is so long after the crash, and the next opening keeps the promise or not.
 fn crash(rt: &impl Abort, alloc: Global, row: (u32, u8, u64, bool)) {
     let (calls, choice, length, kept) = row;
     let mut record = empty(rt, alloc);

@@ -135,7 +135,7 @@ pub(crate) fn take<D: Disk>(
     }
 }
 
-/// The disk of an empty record behind these steps.
+/// The disk of an empty record after these steps.
 pub(crate) fn disk_behind(rt: &impl Abort, alloc: Global, steps: &[Step]) -> MemDisk {
     let mut record = empty(rt, alloc);
     take(rt, alloc, &mut record, steps);

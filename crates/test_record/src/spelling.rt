@@ -25,7 +25,7 @@ fn front(size: u32, kind: u8, instance: Instance, ballot: Ballot) -> [u8; 15]
     bytes
 }
 
-/// The promise of a span behind its open gate.
+/// The promise of a span after its open gate.
 fn span_block(first: Instance, count: u8, ballot: Ballot) -> [u8; 16]
     ensures { result ≡ block (PromisedSpan first count ballot) }
 {
@@ -46,7 +46,7 @@ fn learned_front(size: u32, instance: Instance) -> [u8; 10]
     bytes
 }
 
-/// Appends the entry behind its open gate.
+/// Appends the entry after its open gate.
 fn push_block(bytes: &mut Vec<u8>, entry: &Entry) -> Result<(), AllocError>
     requires { length (payload (meaning entry.now)) < 2 ^ 32 }
     ensures { OnOk result (bytes.new.items ≡ bytes.old.items ++ block (meaning entry.now)) }
@@ -83,7 +83,7 @@ fn push_block(bytes: &mut Vec<u8>, entry: &Entry) -> Result<(), AllocError>
     }
 }
 
-/// The head, and a history's entries behind open gates.
+/// The head, and a history's entries after open gates.
 pub fn spelled(
     alloc: Global,
     cluster: Cluster,

@@ -1,4 +1,4 @@
-//! What a server calls behind the turns of a batch.
+//! What a server calls after the turns of a batch.
 use crate::comparing::same;
 use crate::group::node_of;
 use crate::written_clock::{Call, called};
@@ -7,7 +7,7 @@ use site_ids::Instance;
 use std::process::Abort;
 
 /// What stands (fresh, a telling, a question, a tick, whether it yields), and what is called: the first of
-/// them that applies. A tick is due behind the patience, or at once.
+/// them that applies. A tick is due after the patience, or at once.
 const CALLS: &[(bool, bool, bool, bool, bool, Call)] = &[
     (false, false, false, false, false, Call::Widen),
     (false, false, false, true, false, Call::Tick),

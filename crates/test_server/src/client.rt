@@ -2,7 +2,7 @@
 use std::alloc::{AllocError, Global};
 use std::io::{self, ErrorKind, Read, Write};
 
-/// What it sends, and what it got. A call moves so many bytes at most; behind all that it sends it waits.
+/// What it sends, and what it got. A call moves so many bytes at most; after all that it sends it waits.
 #[derive(Drop)]
 pub(crate) struct Client {
     sends: Vec<u8>,

@@ -157,7 +157,7 @@ impl Far {
 }
 
 /// How many servers there are, how many milliseconds a letter takes, which of them are submitted a value, how
-/// many milliseconds one after the other; and how many behind the last one each shows them all, at most.
+/// many milliseconds one after the other; and how many after the last one each shows them all, at most.
 type Row = (u8, u64, &'static [u8], u64, u64);
 
 const ROWS: &[Row] = &[

@@ -56,7 +56,7 @@ pub(crate) fn fresh(alloc: Global, cluster: Cluster, me: NodeId) -> Option<Boxed
     served(alloc, cluster, me, disk)
 }
 
-/// Another one over its disk, behind a crash by that choice or without one. None where memory was refused.
+/// Another one over its disk, after a crash by that choice or without one. None where memory was refused.
 pub(crate) fn reopened(
     alloc: Global,
     cluster: Cluster,
@@ -82,7 +82,7 @@ pub(crate) fn turn(server: &mut Boxed, now: u64) -> Result<(), ServerFault> {
     Ok(())
 }
 
-/// A piece of these bytes comes behind the others.
+/// A piece of these bytes comes after the others.
 fn push_piece(rt: &impl Abort, alloc: Global, pieces: &mut Vec<Vec<u8>>, bytes: &[u8]) {
     let piece = Vec::from_slice(alloc, bytes).expect(rt, "memory");
     pieces.push(piece).expect(rt, "memory");

@@ -131,7 +131,7 @@ const REPLACED: &[Pass] = &[
     (2011, 66, BOTH, FINE, &[]),
 ];
 
-/// The same, where all up to the floor is known behind the first pass.
+/// The same, where all up to the floor is known after the first pass.
 const TOLD_ITSELF: &[Pass] = &[(
     0,
     70,
@@ -191,7 +191,7 @@ fn reads(rt: &impl Abort, alloc: Global, note: Note, line: &str) {
     same(rt, text.as_str(), line);
 }
 
-/// A pass, and what is said behind it.
+/// A pass, and what is said after it.
 fn pass(rt: &impl Abort, alloc: Global, notes: &mut Notes, pass: Pass) {
     let (now, known, heard, (malformed, displaced, full), lines) = pass;
     notes.hear(now, known, known, nodes_of(rt, heard));

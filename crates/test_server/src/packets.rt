@@ -63,7 +63,7 @@ const CAME: &[Came] = &[
     (&[3, 255, 255, 255, 255, 7], None),
 ];
 
-/// The frames hold these datagrams, and nothing behind them.
+/// The frames hold these datagrams, and nothing after them.
 fn hold(rt: &impl Abort, frames: &[u8], datagrams: &[&[u8]]) {
     let mut rest = frames;
     for &datagram in datagrams {

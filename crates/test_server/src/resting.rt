@@ -1,4 +1,4 @@
-//! A server that begins: nothing waits and nobody is seated; and how long it rests behind a step, by what it
+//! A server that begins: nothing waits and nobody is seated; and how long it rests after a step, by what it
 //! saw.
 use crate::comparing::{ensure, same};
 use crate::group::{Boxed, fresh};

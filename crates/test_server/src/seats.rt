@@ -55,7 +55,7 @@ fn was_silent(gone: Option<Client>) -> Option<bool> {
     Some(was)
 }
 
-/// Sixty-four clients: each comes a millisecond behind the one before it, and the first so many send a
+/// Sixty-four clients: each comes a millisecond after the one before it, and the first so many send a
 /// request.
 fn full(rt: &impl Abort, alloc: Global, asking: u64) -> Seats<Client> {
     let mut seats = Seats::new(alloc, Times::new(None, None));

@@ -54,7 +54,7 @@ const ROWS: &[Row] = &[
     (b"SITEREC1\x01\x00\x00", Err(RecordFault::WrongNode)),
     (b"SITEREC1\x01\x0a\x00", Err(RecordFault::WrongNode)),
     (b"SITEREC1\x01\x03\x01", Err(RecordFault::Damaged)),
-    // a floor behind a round
+    // a floor after a round
     (
         b"SITEREC1\x01\x05\x01\x00\x00\x00\x05\x01\x00\x00\x00\x07\x01\x00\x00\x00\x05\x05\x00\x00\x00\x41\x00",
         Err(RecordFault::Damaged),

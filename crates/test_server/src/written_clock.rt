@@ -104,7 +104,7 @@ const IN_VAIN: &[Step] = &[
 const ASKED: &[Step] = &[
     (0, false, true, Call::Ask, &[SECOND_KNOWN, SECOND_ASKS]),
     (1, false, true, Call::Tell(2, 1), &[SECOND_ASKS, THIRD_ASKS]),
-    // In the step behind a telling nobody is told.
+    // In the step after a telling nobody is told.
     (2, false, true, Call::Widen, &[]),
     (3, false, true, Call::Tell(3, 1), &[]),
     (4, false, true, Call::Widen, &[]),
@@ -128,7 +128,7 @@ const UNHEARD: &[Step] = &[
     (3, false, true, Call::Tell(2, 1), &[]),
 ];
 
-/// What node 3 asks for becomes known behind its question, in the same batch: no answer told it.
+/// What node 3 asks for becomes known after its question, in the same batch: no answer told it.
 const KNOWN_BEHIND: &[Step] = &[
     (0, false, true, Call::Ask, &[THIRD_ASKS, FIRST_KNOWN]),
     (1, false, true, Call::Ask, &[]),

@@ -141,7 +141,7 @@ const OTHER_KINDS: &[Has] = &[
     (Kind::Route, "t", false),
 ];
 
-/// Commands one behind another, and what each leaves.
+/// Commands one after another, and what each leaves.
 const REMOVALS: &[(Row, &[Has])] = &[
     (
         (5, "remove template t\n", Applied::Changed),

@@ -80,7 +80,7 @@ impl<L: Link + Drop> DrivenNode<L> {
         self.desk.take_batch(&mut self.node, came, last)
     }
 
-    /// What is posted behind a batch, whatever it came to.
+    /// What is posted after a batch, whatever it came to.
     pub(crate) fn letters(&self) -> Result<Vec<Letter>, AllocError> {
         let mut letters = Vec::new(self.alloc);
         self.desk.post(&mut letters)?;
@@ -125,7 +125,7 @@ impl DrivenNode<MemLink> {
     }
 }
 
-/// Closed and opened again, behind a crash by a choice or without one.
+/// Closed and opened again, after a crash by a choice or without one.
 pub(crate) fn reopened(
     rt: &impl Abort,
     server: Box<DrivenNode<MemLink>>,

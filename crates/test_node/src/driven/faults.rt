@@ -23,7 +23,7 @@ const PUT_FAILS: &[Step] = &[
     Step::Stopped(true),
 ];
 
-/// It is the tick's, behind all turns.
+/// It is the tick's, after all turns.
 const TICK_FAILS: &[Step] = &[
     Step::Arm(0),
     Step::Ends(9, Some(NodeFault::Device)),

@@ -64,7 +64,7 @@ fn overfill(rt: &impl Abort, server: &mut DrivenNode<UdpLink>, datagram: &[u8]) 
     passes(rt, server.drive(0), 0, 0);
 }
 
-/// Nobody reads the socket of node 2. Behind the loss the next question arrives.
+/// Nobody reads the socket of node 2. After the loss the next question arrives.
 fn lose(rt: &impl Abort, server: &mut DrivenNode<UdpLink>, reader: &UdpSocket) {
     let mut datagram = long(rt, server.alloc, "", MAX_MESSAGE);
     overfill(rt, server, datagram.as_slice());
@@ -99,7 +99,7 @@ fn a_datagram_to_nowhere_is_a_failure(rt: HostRuntime) {
     fail(&rt, &mut server);
 }
 
-/// The longest promise, and the same with more behind it, which a receive cuts: lengths, and how many are
+/// The longest promise, and the same with more after it, which a receive cuts: lengths, and how many are
 /// malformed.
 const LENGTHS: &[(usize, u32)] = &[(32_790, 0), (32_791, 1), (40_000, 1)];
 

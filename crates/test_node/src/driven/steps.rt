@@ -43,13 +43,13 @@ pub(crate) enum Step {
     Sent(usize, u8, &'static str),
     /// It has that beginning, and then bytes 7 up to a length.
     SentLong(usize, u8, &'static str, usize),
-    /// The datagrams sent from a place on, and no more behind them, are one for all nodes, in order.
+    /// The datagrams sent from a place on, and no more after them, are one for all nodes, in order.
     SentToAll(usize, &'static str),
     /// So many were sent.
     Many(usize),
     /// So many receives were tried.
     Tried(u64),
-    /// What is posted behind a batch: to whom, 0 for all.
+    /// What is posted after a batch: to whom, 0 for all.
     Posts(&'static [(u8, &'static str)]),
     /// So many letters are.
     PostsMany(usize),
@@ -243,7 +243,7 @@ pub(crate) fn act_all(rt: &impl Abort, server: &mut DrivenNode<MemLink>, steps: 
     }
 }
 
-/// A fresh node of three behind these steps.
+/// A fresh node of three after these steps.
 pub(crate) fn behind(
     rt: &impl Abort,
     alloc: Global,

@@ -1,5 +1,5 @@
 //! What node 1 of three sends for what it hears, datagram by datagram; turns alone beside `drive`, and the
-//! other calls behind turns.
+//! other calls after turns.
 use crate::driven::steps::{Last, Step, play, play_each};
 
 const QUESTION: &str = "01060100000001";
@@ -93,7 +93,7 @@ fn a_drive_is_an_exchange_and_a_last_call(rt: HostRuntime) {
     play_each(&rt, rt.alloc(), DRIVES);
 }
 
-/// Behind turns by which a tick is wanted: a question, then no widening, and one where a value waits; all on
+/// After turns by which a tick is wanted: a question, then no widening, and one where a value waits; all on
 /// one desk.
 const WITHOUT_A_TICK: &[&[Step]] = &[
     SIX,
@@ -116,7 +116,7 @@ fn questions_and_widenings_need_no_tick(rt: HostRuntime) {
     play_each(&rt, rt.alloc(), &[WITHOUT_A_TICK]);
 }
 
-/// Node 3 asks for what it is told behind the answer; whatever else comes is no question: four messages of
+/// Node 3 asks for what it is told after the answer; whatever else comes is no question: four messages of
 /// attempts, and two votes.
 const TOLD: &[Step] = &[
     Step::Turns(1, Last::Nothing, 0),

@@ -47,7 +47,7 @@ fn input_cut_off_anywhere(rt: HostRuntime) {
     }
 }
 
-/// What is printed over a reader that fails behind so many calls, and how many failed.
+/// What is printed over a reader that fails after so many calls, and how many failed.
 fn over_reader(alloc: Global, good: usize) -> (Printed, u64) {
     let mut reader = Counted::new(trickle(GREETING.as_bytes(), good));
     let mut out = with_room(alloc, 1000);

@@ -74,7 +74,7 @@ const OUTER: &[(&str, &[u8])] = &[
     ("templates/t.mustache", b"{{>p1}}"),
 ];
 
-/// Adds a partial of that number, which calls the one behind it.
+/// Adds a partial of that number, which calls the one after it.
 fn push_partial(alloc: Global, files: &mut Vec<SiteFile>, number: u32) -> Result<(), AllocError> {
     let next = number.saturating_add(1);
     let path = format!(in alloc; "partials/p{number}.mustache")?;
