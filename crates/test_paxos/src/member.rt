@@ -99,7 +99,8 @@ pub(crate) fn is_made(made: Option<Proposal>, at: Ballot, value: Option<&str>) -
 fn is_message(message: &Message, sent: Sent) -> bool {
     match message {
         Message::Propose { ballot, value, .. } => {
-            matches!(sent, Sent::Propose(round, node, text) if is_ballot(*ballot, round, node) && is_text(value, text))
+            matches!(sent, Sent::Propose(round, node, text)
+                if is_ballot(*ballot, round, node) && is_text(value, text))
         }
         Message::Prepare { ballot, .. } => {
             matches!(sent, Sent::Prepare(round, node) if is_ballot(*ballot, round, node))
