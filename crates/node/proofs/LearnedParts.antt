@@ -7,8 +7,7 @@ use Rattle.site_ids.specs.Lists.{In, put_at}
 use Rattle.learner.specs.ToldVotes.{ToldVote, told_vote, HasMajority}
 use Rattle.learner.specs.Votes.{IsTold, IsToldWith}
 use Rattle.learner.specs.declared.learner.Learner.{Learner}
-use Rattle.proposer.specs.Attempts.{Attempt}
-use Rattle.proposer.specs.Standing.{Attempting}
+use Rattle.proposer.specs.Standing.{Attempting, Changes}
 use Rattle.proposer.specs.declared.proposer.Proposer.{Proposer}
 use Rattle.node.specs.declared.queue.Queue.{Queue}
 use Rattle.node.specs.declared.node.Node.{Node as Running}
@@ -82,10 +81,9 @@ module _ {D : Type 0} where
   pub record Learns (old new : Running D) (i : ℕ) (v : Value) : Type 0 where
     pub store : new.store ≡ old.store
     pub reached : new.reached ≡ old.reached
-    pub heard : new.proposer.heard ≡ old.proposer.heard
     pub known : (published : List Value) (known : ℕ → Option Value) → AreKnown old.known published known → AreKnown new.known published (put_at known i (Some v))
     pub votes : (t : ToldVote) → IsTold new.learner t ↔ (IsTold old.learner t × (t.instance ≢ i))
-    pub attempts : (attempts : ℕ → Option Attempt) → Attempting old.proposer attempts → Attempting new.proposer (put_at attempts i None)
+    pub proposer : Changes old.proposer new.proposer (λ attempts. put_at attempts i None)
     pub pending : (values : List Value) → AreWaiting old.queue.items.items values → AreWaiting new.queue.items.items (filter (λ u. not (has_same_ticket u v)) values)
 
   pub learned_parts : (old new : Running D) (s : Node) (i : ℕ) (v : Value) → KeepsOthers old new → Learns old new i v → HasParts old s → HasParts new (learned s i v)
@@ -93,9 +91,9 @@ module _ {D : Type 0} where
     on_record = same_record old new s (learned s i v) others (same_store old.store new.store learns.store) refl refl refl parts.on_record;
     votes = told_elsewhere i s.votes old.learner new.learner parts.votes learns.votes;
     known = subst (λ vs. AreKnown new.known vs (put_at s.known i (Some v))) (sym others.releases) (learns.known old.releases s.known parts.known);
-    attempts = learns.attempts s.attempts parts.attempts;
+    attempts = learns.proposer.attempts s.attempts parts.attempts;
     pending = learns.pending s.pending parts.pending;
-    heard = learns.heard ∙ parts.heard;
+    heard = (λ k. (learns.proposer.only k).heard) ∙ parts.heard;
     reached = learns.reached ∙ parts.reached;
   }
 

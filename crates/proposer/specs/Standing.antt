@@ -47,6 +47,12 @@ abbrev pub Attempting : Proposer → (ℕ → Option Attempt) → Type 0
 Attempting proposer attempts =
     (i : ℕ) → StandsForAny proposer.cluster (attempt_at proposer.attempts i) (attempts i)
 
+-- a call changes the proposer's attempts in this way, and nothing else of the proposer
+pub record Changes (old new : Proposer) (change : (ℕ → Option Attempt) → ℕ → Option Attempt) : Type 0 where
+  pub only : new ≡ record old { attempts = new.attempts }
+  pub attempts : (attempts : ℕ → Option Attempt) → Attempting old attempts
+      → Attempting new (change attempts)
+
 -- what an attempt answers to a promise: nothing if the promise does not count or leaves it waiting, the value
 -- that it proposes after it, or that an allocation failed, which changes nothing
 abbrev pub Answered : ℕ → Attempt → ℕ → BallotOf → Option Vote → Result (Option (List ℕ)) AllocError

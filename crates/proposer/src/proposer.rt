@@ -1,6 +1,6 @@
-//! `make_room` and `open` are two functions. A refused span hands the values back.
+//! Making room may fail, and opening an attempt may not. Between the two a node puts its round on record.
 
-ghost use Rattle.std.specs.Prelude.{◌≡◌, ◌↔◌, ◌+◌, ◌<◌, ℕ, max, None, Some, Option, OnOk, OnErr, IfOk, IfErr};
+ghost use Rattle.std.specs.Prelude.{◌≡◌, ◌↔◌, ◌+◌, ◌<◌, ℕ, max, None, Some, Option, OnOk, OnErr, IfOk};
 ghost use Rattle.std.specs.Prelude.{IsTrue, MatchResult, length};
 ghost use Rattle.std.specs.Option.{option_map};
 ghost use Rattle.site_ids.specs.declared.TheConstants.{MAX_ROUND};
@@ -9,7 +9,7 @@ ghost use Rattle.site_ids.specs.Spans.{IsSpan, IsInSpan};
 ghost use Rattle.site_ids.specs.Lists.{put_at};
 ghost use Rattle.proposer.specs.declared.fault.ProposerFault.TheVariants.{RoundsUsedUp};
 ghost use Rattle.proposer.specs.Attempts.{Attempt, AreOpen, opened, opened_span, latest};
-ghost use Rattle.proposer.specs.Standing.{Attempting, HasRoom, Promised};
+ghost use Rattle.proposer.specs.Standing.{Attempting, HasRoom, Changes, Promised};
 ghost use Rattle.proposer.specs.Best.{vote_told};
 
 use crate::ProposerFault;
@@ -92,10 +92,7 @@ impl Proposer {
 
     /// Makes room for an attempt at an instance. The attempts stay as they are.
     pub fn make_room(&mut self, instance: Instance) -> Result<(), AllocError>
-        ensures same { (self.new.cluster ≡ self.old.cluster) × (self.new.me ≡ self.old.me)
-            × (self.new.heard ≡ self.old.heard) }
-        ensures stays { (attempts : ℕ → Option Attempt) → Attempting self.old attempts
-            → Attempting self.new attempts }
+        ensures stays { Changes self.old self.new (λ attempts. attempts) }
         ensures room { OnOk result (HasRoom self.new instance) }
         ensures kept { (other : ℕ) → HasRoom self.old other → HasRoom self.new other }
     {
@@ -110,10 +107,8 @@ impl Proposer {
     /// most `MAX_ATTEMPTS` open. Nothing here depends on either.
     pub fn open(&mut self, instance: Instance, ballot: Ballot, own: Value)
         requires { HasRoom self.old instance }
-        ensures same { (self.new.cluster ≡ self.old.cluster) × (self.new.me ≡ self.old.me)
-            × (self.new.heard ≡ self.old.heard) }
-        ensures opened { (attempts : ℕ → Option Attempt) → Attempting self.old attempts
-            → Attempting self.new (put_at attempts instance (Some (opened ballot own))) }
+        ensures opened { Changes self.old self.new
+            (λ attempts. put_at attempts instance (Some (opened ballot own))) }
         ensures kept { (other : ℕ) → HasRoom self.old other → HasRoom self.new other }
     {
         let attempt = OpenAttempt {
@@ -131,10 +126,8 @@ impl Proposer {
     pub fn open_span(&mut self, first: Instance, ballot: Ballot, values: Vec<Value>)
         requires span { IsSpan first (length values.items) }
         requires room { (at : ℕ) → IsInSpan first (length values.items) at → HasRoom self.old at }
-        ensures same { (self.new.cluster ≡ self.old.cluster) × (self.new.me ≡ self.old.me)
-            × (self.new.heard ≡ self.old.heard) }
-        ensures opened { (attempts : ℕ → Option Attempt) → Attempting self.old attempts
-            → Attempting self.new (opened_span attempts first ballot values.items) }
+        ensures opened { Changes self.old self.new
+            (λ attempts. opened_span attempts first ballot values.items) }
     {
         let mut past = 0;
         for own in values {
@@ -153,12 +146,9 @@ impl Proposer {
         ballot: Ballot,
         own: &Value,
     ) -> Result<(), AllocError>
-        ensures same { (self.new.cluster ≡ self.old.cluster) × (self.new.me ≡ self.old.me)
-            × (self.new.heard ≡ self.old.heard) }
-        ensures ok { OnOk result ((attempts : ℕ → Option Attempt) → Attempting self.old attempts
-            → Attempting self.new (put_at attempts instance (Some (opened ballot own.now)))) }
-        ensures err { OnErr result ((attempts : ℕ → Option Attempt) → Attempting self.old attempts
-            → Attempting self.new attempts) }
+        ensures ok { OnOk result (Changes self.old self.new
+            (λ attempts. put_at attempts instance (Some (opened ballot own.now)))) }
+        ensures err { OnErr result (Changes self.old self.new (λ attempts. attempts)) }
     {
         let own = own.try_clone()?;
         self.make_room(instance)?;
@@ -170,10 +160,7 @@ impl Proposer {
     /// are.
     pub fn make_room_for_span(&mut self, first: Instance, count: u8) -> Result<(), AllocError>
         requires { IsSpan first count }
-        ensures same { (self.new.cluster ≡ self.old.cluster) × (self.new.me ≡ self.old.me)
-            × (self.new.heard ≡ self.old.heard) }
-        ensures stays { (attempts : ℕ → Option Attempt) → Attempting self.old attempts
-            → Attempting self.new attempts }
+        ensures stays { Changes self.old self.new (λ attempts. attempts) }
         ensures room { OnOk result ((at : ℕ) → IsInSpan first count at → HasRoom self.new at) }
     {
         let mut past = 0;
@@ -183,30 +170,6 @@ impl Proposer {
             }
             past += 1;
         }
-        Ok(())
-    }
-
-    /// Makes room for an attempt for each of the values, and opens these from this instance on, all at one
-    /// ballot. If an allocation fails it opens none, and hands the values back.
-    pub fn start_span(
-        &mut self,
-        first: Instance,
-        ballot: Ballot,
-        own: Vec<Value>,
-    ) -> Result<(), (AllocError, Vec<Value>)>
-        requires { IsSpan first (length own.items) }
-        ensures same { (self.new.cluster ≡ self.old.cluster) × (self.new.me ≡ self.old.me)
-            × (self.new.heard ≡ self.old.heard) }
-        ensures ok { OnOk result ((attempts : ℕ → Option Attempt) → Attempting self.old attempts
-            → Attempting self.new (opened_span attempts first ballot own.items)) }
-        ensures err { OnErr result ((attempts : ℕ → Option Attempt) → Attempting self.old attempts
-            → Attempting self.new attempts) }
-        ensures back { IfErr result (λ e. e.1 ≡ own) }
-    {
-        if let Err(wanted) = self.make_room_for_span(first, own.len() as u8) {
-            return Err((wanted, own));
-        }
-        self.open_span(first, ballot, own);
         Ok(())
     }
 
@@ -220,8 +183,7 @@ impl Proposer {
         prior: Option<&Vote>,
     ) -> Result<Option<Proposal>, ProposerFault>
         requires { IsNode self.old.cluster from }
-        ensures same { (self.new.cluster ≡ self.old.cluster) × (self.new.me ≡ self.old.me)
-            × (self.new.heard ≡ self.old.heard) }
+        ensures same { self.new ≡ record self.old { attempts = self.new.attempts } }
         ensures step { (attempts : ℕ → Option Attempt) → Attempting self.old attempts
             → Promised self.old.cluster attempts from instance ballot
             (vote_told prior.entry) result self.new }
@@ -315,10 +277,7 @@ impl Proposer {
 
     /// Closes the attempt at an instance, if one is open.
     pub fn abandon(&mut self, instance: Instance)
-        ensures same { (self.new.cluster ≡ self.old.cluster) × (self.new.me ≡ self.old.me)
-            × (self.new.heard ≡ self.old.heard) }
-        ensures closed { (attempts : ℕ → Option Attempt) → Attempting self.old attempts
-            → Attempting self.new (put_at attempts instance None) }
+        ensures closed { Changes self.old self.new (λ attempts. put_at attempts instance None) }
     {
         self.attempts.remove(&instance.number());
     }

@@ -50,7 +50,7 @@ pub(crate) enum Step {
     Open(usize),
 }
 
-/// A try that was refused opens none, and is made once more.
+/// If no room was made, no attempt was opened, and room is made once more.
 fn start_span(proposer: &mut Proposer, first: Instance, ballot: Ballot, values: Vec<Value>) -> bool
     ensures { proposer.new.cluster ≡ proposer.old.cluster }
 {
@@ -59,14 +59,17 @@ fn start_span(proposer: &mut Proposer, first: Instance, ballot: Ballot, values: 
         drop(values);
         return false;
     }
-    let Err((_wanted, values)) = proposer.start_span(first, ballot, values) else {
+    let count = values.len() as u8;
+    if proposer.make_room_for_span(first, count).is_ok() {
+        proposer.open_span(first, ballot, values);
         return true;
-    };
-    let is_as_before = proposer.attempts() == open;
-    let again = proposer.start_span(first, ballot, values);
-    let is_started = again.is_ok();
-    drop(again);
-    is_as_before && is_started
+    }
+    if proposer.attempts() != open || proposer.make_room_for_span(first, count).is_err() {
+        drop(values);
+        return false;
+    }
+    proposer.open_span(first, ballot, values);
+    true
 }
 
 /// Three values of one byte.
@@ -96,7 +99,8 @@ pub(crate) fn is_made(made: Option<Proposal>, at: Ballot, value: Option<&str>) -
 fn is_message(message: &Message, sent: Sent) -> bool {
     match message {
         Message::Propose { ballot, value, .. } => {
-            matches!(sent, Sent::Propose(round, node, text) if is_ballot(*ballot, round, node) && is_text(value, text))
+            matches!(sent, Sent::Propose(round, node, text)
+                if is_ballot(*ballot, round, node) && is_text(value, text))
         }
         Message::Prepare { ballot, .. } => {
             matches!(sent, Sent::Prepare(round, node) if is_ballot(*ballot, round, node))

@@ -25,7 +25,7 @@ returns-in_err-make_room_for_span-clause-event g c call by =
     let old = c.args.self.now in
     wants_memory g.D.Disk.stands_for old _ call c.from_residual-in_err-make_room_for_span.result _ _ (record { me = refl; cluster = refl; releases = refl }) by.in_range c.reserve.ensures.items c.from_residual-in_err-make_room_for_span.ensures.1 by.wants
     (same_store old.store old.store refl)
-    (λ s parts. unmoved old _ s (record { me = refl; cluster = refl; releases = refl }) refl (record { learner = refl; known = refl; queue = refl; attempts = c.make_room_for_span.ensures.stays; heard = c.make_room_for_span.ensures.same.2 }) refl parts)
+    (λ s parts. unmoved old _ s (record { me = refl; cluster = refl; releases = refl }) refl (record { learner = refl; known = refl; queue = refl; attempts = c.make_room_for_span.ensures.stays.attempts; heard = λ k. (c.make_room_for_span.ensures.stays.only k).heard }) refl parts)
 
 pub returns-in_err-put_round-clause-event : goal.returns-in_err-put_round-clause-event
 returns-in_err-put_round-clause-event g c call by =
@@ -33,7 +33,7 @@ returns-in_err-put_round-clause-event g c call by =
     let failed = c.in_err-put_round in
     let told = c.from_residual-in_err-put_round in
     put_fails g.D.Disk.stands_for g.D.Disk.failed old _ (Round c.round.result) (record { me = refl; cluster = refl; releases = refl }) c.requires.running call failed.field-0.0 told.result _ _ by.in_range
-    (record { learner = refl; known = refl; queue = refl; attempts = c.make_room_for_span.ensures.stays; heard = c.make_room_for_span.ensures.same.2 }) refl c.reserve.ensures.items failed.ensures.put told.ensures.1
+    (record { learner = refl; known = refl; queue = refl; attempts = c.make_room_for_span.ensures.stays.attempts; heard = λ k. (c.make_room_for_span.ensures.stays.only k).heard }) refl c.reserve.ensures.items failed.ensures.put told.ensures.1
     (λ s stands. (begun old.me s c.args.due.first c.args.due.ballot c.args.due.values.items c.args.due.again.items, by.does s stands, ap (λ r. Some (Round r)) (sym c.round.ensures.is)))
     by.wants
 
@@ -53,8 +53,8 @@ returns-clause-event g c call by =
     (λ s stands. started g.D.Disk.stands_for g.D.Disk.failed old _ s call i b values again stands c.requires.running (record { me = refl; cluster = refl; releases = refl }) (by.does s stands)
     (record {
       puts = subst (λ (r : ℕ). Puts g.D.Disk.stands_for g.D.Disk.failed old.store c.put_round.new.self (Round r) (Ok tt)) c.round.ensures.is c.in_ok-put_round.ensures.put;
-      attempts = λ attempts are. c.open_span.ensures.opened attempts (c.make_room_for_span.ensures.stays attempts are);
-      heard = c.open_span.ensures.same.2 ∙ c.make_room_for_span.ensures.same.2;
+      attempts = λ attempts are. c.open_span.ensures.opened.attempts attempts (c.make_room_for_span.ensures.stays.attempts attempts are);
+      heard = (λ k. (c.open_span.ensures.opened.only k).heard) ∙ (λ k. (c.make_room_for_span.ensures.stays.only k).heard);
       learner = refl;
       known = refl;
       queue = refl;

@@ -15,10 +15,9 @@ returns-in-Some-clause-learned g c s parts =
     (record {
       store = refl;
       reached = refl;
-      heard = c.abandon.ensures.same.2;
       known = ok.1;
       votes = c.forget.ensures.dropped;
-      attempts = c.abandon.ensures.closed;
+      proposer = c.abandon.ensures.closed;
       pending = λ values are. subst (λ (vs : List Value). AreWaiting c.drop_ticket.new.self.items.items vs) (sym (drops_one v c.in-Some.ticket values (sym c.in-Some.is ∙ ok.0))) (c.drop_ticket.ensures values (c.take_read-read.ensures values are));
     }) parts
 
@@ -30,10 +29,9 @@ returns-in_default-clause-learned g c s parts =
     (record {
       store = refl;
       reached = refl;
-      heard = c.abandon.ensures.same.2;
       known = ok.1;
       votes = c.forget.ensures.dropped;
-      attempts = c.abandon.ensures.closed;
+      proposer = c.abandon.ensures.closed;
       pending = λ values are. subst (λ (vs : List Value). AreWaiting c.take_read-read.new.self.items.items vs) (sym (drops_none v values (sym (is_none c.in_ok-ticket.ticket c.in_default.not-Some) ∙ ok.0))) (c.take_read-read.ensures values are);
     }) parts
 

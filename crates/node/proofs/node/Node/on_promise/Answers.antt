@@ -26,7 +26,7 @@ returns-in-Ok-Some g c in_range =
     (c.in-Ok-Some.ensures.step attempts are) in
     let x = c.in-Ok-Some.proposal in
     let out : Handed = (All, Propose old.me x.instance x.ballot x.value) ∷ [] in
-    promise_whole g.D.Disk.stands_for g.D.Disk.failed old _ q i b prior (Some x.value) _ _ out (record { me = refl; cluster = refl; releases = refl }) c.requires.running in_range refl refl refl refl c.on_promise.ensures.same.2 refl
+    promise_whole g.D.Disk.stands_for g.D.Disk.failed old _ q i b prior (Some x.value) _ _ out (record { me = refl; cluster = refl; releases = refl }) c.requires.running in_range refl refl refl refl (λ k. (c.on_promise.ensures.same k).heard) refl
     (proposes_some old.proposer new old.cluster q i b prior answer taken x c.in-Ok-Some.field-0-is)
     (c.push_reserved.ensures.items ∙ ap (λ (l : Handed). l ++ out) c.reserve.ensures.items)
     (proposal_out old.proposer new old.cluster q i b prior answer taken old.me x c.in-Ok-Some.field-0-is)
@@ -43,7 +43,7 @@ returns-in-Ok-None g c in_range =
     let taken : (attempts : ℕ → Option Attempt) → Attempting old.proposer attempts → Promised old.cluster attempts q i b prior (Ok answer) new = λ attempts are.
     subst (λ (n : ℕ). Promised n attempts q i b prior (Ok answer) new) old.proposer_cluster
     (c.in-Ok-None.ensures.step attempts are) in
-    promise_whole g.D.Disk.stands_for g.D.Disk.failed old _ q i b prior None _ _ [] (record { me = refl; cluster = refl; releases = refl }) c.requires.running in_range refl refl refl refl c.on_promise.ensures.same.2 refl
+    promise_whole g.D.Disk.stands_for g.D.Disk.failed old _ q i b prior None _ _ [] (record { me = refl; cluster = refl; releases = refl }) c.requires.running in_range refl refl refl refl (λ k. (c.on_promise.ensures.same k).heard) refl
     (proposes_none old.proposer new old.cluster q i b prior answer taken c.in-Ok-None.field-0-is)
     (c.reserve.ensures.items ∙ sym (append-nil c.args.outbox.now.items))
     (λ attempts are. refl)
@@ -59,7 +59,7 @@ returns-in-Err g c =
       known = parts.known;
       attempts = attempts_stay old.proposer.cluster s.attempts c.args.from c.args.instance c.args.ballot (vote_told c.args.prior) c.in-Err.field-0 c.on_promise.new.self (c.in-Err.ensures.step s.attempts parts.attempts);
       pending = parts.pending;
-      heard = c.on_promise.ensures.same.2 ∙ parts.heard;
+      heard = (λ k. (c.on_promise.ensures.same k).heard) ∙ parts.heard;
       reached = parts.reached;
     })
 

@@ -1,15 +1,13 @@
-use Rattle.std.proofs.Common.{◌≡◌, ◌≤◌, ◌-◌, ℕ, Option}
+use Rattle.std.proofs.Common.{◌≤◌, ◌-◌, ℕ}
 use Rattle.site_ids.specs.Spans.{IsInSpan}
-use Rattle.proposer.specs.Attempts.{Attempt}
-use Rattle.proposer.specs.Standing.{Attempting, HasRoom}
+use Rattle.proposer.specs.Standing.{Changes, HasRoom}
 use Rattle.proposer.proofs.proposer.Proposer.make_room_for_span.Given as goal
 
 -- there is room for this many of them, and the attempts are as they were
 abbrev pub invariant-loop-past : goal.invariant-loop-past
 invariant-loop-past l = record {
   within : l.past ≤ l.count;
-  same : (l.self.cluster ≡ l.fn.self.cluster) × (l.self.me ≡ l.fn.self.me) × (l.self.heard ≡ l.fn.self.heard);
-  stays : (attempts : ℕ → Option Attempt) → Attempting l.fn.self attempts → Attempting l.self attempts;
+  stays : Changes l.fn.self l.self (λ attempts. attempts);
   room : (at : ℕ) → IsInSpan l.first l.past at → HasRoom l.self at;
 }
 

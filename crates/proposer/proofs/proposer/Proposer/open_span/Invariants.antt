@@ -7,7 +7,7 @@ use Rattle.proposer.proofs.proposer.Proposer.open_span.Given as goal
 -- with those that are left the attempts become those of all values
 abbrev pub invariant-loop-own : goal.invariant-loop-own
 invariant-loop-own l = record {
-  same : (l.self.cluster ≡ l.fn.self.cluster) × (l.self.me ≡ l.fn.self.me) × (l.self.heard ≡ l.fn.self.heard);
+  only : l.self ≡ record l.fn.self { attempts = l.self.attempts };
   counted : l.past + length l.own-iterator.rest.items ≡ length l.fn.values.items;
   room : (at : ℕ) → IsInSpan l.first (length l.fn.values.items) at → HasRoom l.self at;
   opened : (attempts : ℕ → Option Attempt) → Attempting l.fn.self attempts → (mid : ℕ → Option Attempt) × Attempting l.self mid
