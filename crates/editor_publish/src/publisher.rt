@@ -1,8 +1,11 @@
 //! A publication under way.
+ghost use Rattle.std.specs.Prelude.{IfOk};
+ghost use Rattle.editor_publish.specs.Endings.{MayEnd};
+
 use crate::asked::Asked;
 use crate::comparing::{expected, tell_differences};
-use crate::dry_run::{Found, tell_plan};
-use crate::ending::Shown;
+use crate::dry_run::{Found, Seen, tell_plan};
+use crate::ending::{Ending, Shown};
 use crate::made::{
     Made, commands_of, is_exact, made_value, release_ticket, tell_made, unnumbered, untold,
 };
@@ -78,27 +81,30 @@ impl<R: Files + Net<Stream = TcpStream> + Clock + AllocGlobal, E: Write> Publish
         saved
     }
 
-    /// The newest release of the node that is spoken to.
-    fn newest(&self) -> Result<u64, EditorFault> {
-        let node = self.group.node()?;
-        match newest(self.rt, self.rt.alloc(), node)? {
-            Some(release) => Ok(release),
-            None => Err(untold(self.rt.alloc(), node.url.as_str())?),
-        }
-    }
-
-    /// The number of the release that was made, by the node that is spoken to.
-    fn number_made(&self) -> Result<u64, EditorFault> {
-        let node = self.group.node()?;
-        match newest(self.rt, self.rt.alloc(), node)? {
-            Some(release) => Ok(release),
-            None => Err(unnumbered(self.rt.alloc(), node.url.as_str())?),
-        }
+    /// The URL of the node that is spoken to.
+    fn url(&self) -> Result<&str, EditorFault> {
+        Ok(self.group.node()?.url.as_str())
     }
 
     /// The newest release, where the node that is spoken to tells it.
     fn newest_told(&self) -> Result<Option<u64>, EditorFault> {
         Ok(newest(self.rt, self.rt.alloc(), self.group.node()?)?)
+    }
+
+    /// The newest release of the node that is spoken to.
+    fn newest(&self) -> Result<u64, EditorFault> {
+        match self.newest_told()? {
+            Some(release) => Ok(release),
+            None => Err(untold(self.rt.alloc(), self.url()?)?),
+        }
+    }
+
+    /// The number of the release that was made, by the node that is spoken to.
+    fn number_made(&self) -> Result<u64, EditorFault> {
+        match self.newest_told()? {
+            Some(release) => Ok(release),
+            None => Err(unnumbered(self.rt.alloc(), self.url()?)?),
+        }
     }
 
     /// Keeps in the log that a release was made. It is not saved.
@@ -126,7 +132,7 @@ impl<R: Files + Net<Stream = TcpStream> + Clock + AllocGlobal, E: Write> Publish
     /// Keeps a release that was made in the outcome, under a name.
     fn keep_made(&mut self, name: &str, made: Made) -> Result<(), EditorFault> {
         let alloc = self.rt.alloc();
-        let value = made_value(alloc, self.group.node()?.url.as_str(), made)?;
+        let value = made_value(alloc, self.url()?, made)?;
         Ok(self.outcome.put(alloc, name, value)?)
     }
 
@@ -145,7 +151,7 @@ impl<R: Files + Net<Stream = TcpStream> + Clock + AllocGlobal, E: Write> Publish
         self.note(made)?;
         self.save()?;
         self.keep_made("found", made)?;
-        tell_made(self.rt.alloc(), out, self.group.node()?.url.as_str(), made)?;
+        tell_made(self.rt.alloc(), out, self.url()?, made)?;
         Ok(Some(made))
     }
 
@@ -296,7 +302,7 @@ impl<R: Files + Net<Stream = TcpStream> + Clock + AllocGlobal, E: Write> Publish
         views: &[View],
     ) -> Result<Shown, EditorFault> {
         self.keep_made("release", made)?;
-        tell_made(self.rt.alloc(), out, self.group.node()?.url.as_str(), made)?;
+        tell_made(self.rt.alloc(), out, self.url()?, made)?;
         self.shown(made.release, views)
     }
 
@@ -344,8 +350,9 @@ impl<R: Files + Net<Stream = TcpStream> + Clock + AllocGlobal, E: Write> Publish
     /// What a publication takes over, and what it leaves to others. It is kept in the outcome.
     fn taken(&mut self, wanted: &[&str]) -> Result<Taken, EditorFault> {
         let (alloc, take_over) = (self.rt.alloc(), self.how.take_over);
+        let release = self.newest()?;
         let node = self.group.node()?;
-        let taken = taken_over(self.rt, alloc, node, self.ledger, wanted, take_over)?;
+        let taken = taken_over(self.rt, alloc, node, release, self.ledger, wanted, take_over)?;
         self.outcome
             .put(alloc, "takes_over", texts_value(alloc, &taken.paths)?)?;
         self.outcome
@@ -379,11 +386,7 @@ impl<R: Files + Net<Stream = TcpStream> + Clock + AllocGlobal, E: Write> Publish
     }
 
     /// Publishes texts, once the group has confirmed their ledger.
-    pub(crate) fn run<W: Write>(
-        &mut self,
-        out: &mut W,
-        wanted: &[&str],
-    ) -> Result<Shown, EditorFault> {
+    fn run<W: Write>(&mut self, out: &mut W, wanted: &[&str]) -> Result<Shown, EditorFault> {
         let (folder, patience) = (self.how.folder, self.how.patience);
         confirm(self.rt, self.err, folder, self.group, self.ledger, patience)?;
         let found = self.note_unlogged(out)?;
@@ -391,70 +394,64 @@ impl<R: Files + Net<Stream = TcpStream> + Clock + AllocGlobal, E: Write> Publish
         self.send_and_show(out, wanted, taken, found)
     }
 
-    /// Tells what a publication of these texts would take over: that is the answer, if the node that is
-    /// spoken to says it. Why a publication would be refused is kept.
-    fn tell_taken<W: Write>(
-        &mut self,
-        out: &mut W,
-        wanted: &[&str],
-        refused: &mut Option<EditorFault>,
-    ) -> Result<Option<Taken>, EditorFault> {
+    /// Tells what a publication of these texts would take over, if the node that is spoken to says it.
+    fn see_taken<W: Write>(&mut self, out: &mut W, wanted: &[&str]) -> Result<Seen, EditorFault> {
         match self.taken(wanted) {
             Ok(taken) => {
                 tell_taken_over(self.rt.alloc(), out, &taken)?;
-                Ok(Some(taken))
+                Ok(Seen::Taken(taken))
             }
-            Err(EditorFault::Stop(why)) => {
-                *refused = Some(EditorFault::Stop(why));
-                Ok(None)
-            }
+            Err(EditorFault::Stop(why)) => Ok(Seen::Refused(EditorFault::Stop(why))),
             Err(fault) => Err(fault),
         }
     }
 
-    /// Tells what a publication would take over, if the group confirms its ledger: that is the answer. Why
-    /// the publication would be refused is kept.
-    fn look<W: Write>(
-        &mut self,
-        out: &mut W,
-        wanted: &[&str],
-        refused: &mut Option<EditorFault>,
-    ) -> Result<Option<Taken>, EditorFault> {
+    /// Tells what a publication would take over, if the group confirms its ledger.
+    fn look<W: Write>(&mut self, out: &mut W, wanted: &[&str]) -> Result<Seen, EditorFault> {
         if self.group.nodes().is_empty() {
-            return Ok(None);
+            return Ok(Seen::NoNode);
         }
         match look_at(self.rt, self.err, self.how.folder, self.group, self.ledger)? {
-            Look::Confirmed => self.tell_taken(out, wanted, refused),
-            Look::Refused(why) => {
-                *refused = Some(why);
-                Ok(None)
-            }
+            Look::Confirmed => self.see_taken(out, wanted),
+            Look::Refused(why) => Ok(Seen::Refused(why)),
         }
     }
 
     /// Tells what a publication of these texts would put, remove and take over; if it would send nothing,
     /// whether the group shows the folder. Nothing is sent or saved. If the publication would be refused, so
     /// is this, once all is told.
-    pub(crate) fn tell_plan<W: Write>(
-        &mut self,
-        out: &mut W,
-        wanted: &[&str],
-    ) -> Result<Found, EditorFault> {
-        let mut refused = None;
-        let taken = self.look(out, wanted, &mut refused)?;
+    fn tell_plan<W: Write>(&mut self, out: &mut W, wanted: &[&str]) -> Result<Found, EditorFault> {
+        let seen = self.look(out, wanted)?;
         let (alloc, ledger) = (self.rt.alloc(), &mut *self.ledger);
-        let sends = tell_plan(alloc, out, self.outcome, ledger, wanted, taken.as_ref())?;
-        if let Some(why) = refused {
-            return Err(why);
-        }
+        let sends = tell_plan(alloc, out, self.outcome, ledger, wanted, seen.taken())?;
         let mut shown = Shown::Whole;
-        if let Some(taken) = taken {
-            self.refuse(&taken)?;
-            if !sends {
-                let views = self.expected(wanted, &taken.left)?;
-                shown = self.shown(taken.release, &views)?;
+        match seen {
+            Seen::NoNode => {}
+            Seen::Refused(why) => return Err(why),
+            Seen::Taken(taken) => {
+                self.refuse(&taken)?;
+                if !sends {
+                    let views = self.expected(wanted, &taken.left)?;
+                    shown = self.shown(taken.release, &views)?;
+                }
             }
         }
         Ok(Found { sends, shown })
+    }
+
+    /// Publishes texts, or in a dry run tells what would be sent.
+    pub(crate) fn run_or_tell<W: Write>(
+        &mut self,
+        out: &mut W,
+        wanted: &[&str],
+    ) -> Result<Ending, EditorFault>
+        ensures { IfOk result (MayEnd self.old.how.now.dry_run self.old.how.now.exit_code) }
+    {
+        let how = self.how;
+        if how.dry_run {
+            let found = self.tell_plan(out, wanted)?;
+            return Ok(Ending::of_dry_run(found, how.exit_code));
+        }
+        Ok(Ending::of(self.run(out, wanted)?))
     }
 }

@@ -15,13 +15,13 @@
 //! replaced.
 use crate::asked::{Asked, Compared, compare};
 use crate::comparing::{Change, add_paths, changes_of};
-use crate::made::{release_ticket, untold};
+use crate::made::release_ticket;
 use crate::own::{OwnTexts, texts_since};
 use crate::renewing::{apart_from, texts_of_pages};
 use crate::replacing::replaced;
 use editor_common::{EditorFault, say_made};
 use editor_files::lent;
-use editor_group::{Address, newest};
+use editor_group::Address;
 use editor_ledger::{Ledger, LedgerFault};
 use editor_plan::{LeftOver, joins, last_shown, left_by, states_of, touched};
 use std::alloc::{AllocError, Global};
@@ -212,18 +212,16 @@ fn staying(
     apart_from(alloc, texts, wanted)
 }
 
-/// What a publication of texts takes over in a node's newest release, and what it leaves there.
+/// What a publication of texts takes over in a node's newest release, `release`, and what it leaves there.
 pub(crate) fn taken_over<N: Net<Stream = TcpStream>>(
     net: &N,
     alloc: Global,
     node: &Address,
+    release: u64,
     ledger: &Ledger,
     wanted: &[&str],
     take_over: bool,
 ) -> Result<Taken, EditorFault> {
-    let Some(release) = newest(net, alloc, node)? else {
-        return Err(untold(alloc, node.url.as_str())?);
-    };
     let states = states_of(alloc, ledger)?;
     let compared = compared_paths(alloc, ledger, &states, wanted)?;
     let shown = if is_begun(ledger) {
