@@ -191,8 +191,8 @@ fn tell_difference<E: Write>(
     Ok(say_made(err, format!(in alloc; "{url}/@{release}{path}: {why}"))?)
 }
 
-/// So many pages are told one by one, and then how many more there are.
-const TOLD: usize = 10;
+/// So many pages or paths are told one by one, and then how many more there are.
+pub(crate) const TOLD: usize = 10;
 
 /// Tells how many pages more are not shown than were told.
 fn tell_more<E: Write>(
