@@ -8,12 +8,13 @@ ghost use Rattle.std.specs.Prelude.{◌≡◌, map, slice_get, true, Some, IfOk,
 ghost use Rattle.editor_plan.specs.Takings.{is_of_page};
 ghost use Rattle.editor_publish.specs.Taking.{shows_some, is_own, is_fresh, has, those_of};
 
-use crate::comparing::shows;
+use crate::comparing::{pages_at, shows};
 use crate::own::OwnTexts;
 use editor_common::EditorFault;
+use editor_files::lent;
 use editor_folder::View;
-use editor_group::{Address, ask};
-use editor_http::{NodeAnswer, Question};
+use editor_group::Address;
+use editor_http::NodeAnswer;
 use editor_plan::{is_of_page, is_taken};
 use std::alloc::{AllocError, Global};
 use std::collections::BTreeSet;
@@ -47,21 +48,6 @@ impl Compared {
             fresh: Vec::new(alloc),
         }
     }
-}
-
-/// The answers of a node for paths of a release.
-fn answers_at<N: Net<Stream = TcpStream>>(
-    net: &N,
-    alloc: Global,
-    node: &Address,
-    release: u64,
-    paths: &[String],
-) -> Result<Vec<NodeAnswer>, AllocError> {
-    let questions: Vec<Question<'_>> = paths
-        .iter()
-        .map(|path| Question::Page(release, path.as_str()))
-        .collect(alloc)?;
-    ask(net, alloc, node, &questions)
 }
 
 /// Whether the view at that place is what was answered.
@@ -211,7 +197,7 @@ pub(crate) fn compare<N: Net<Stream = TcpStream>>(
         return Ok(Compared::none(alloc));
     }
     let views = own.views(alloc, paths)?;
-    let answers = answers_at(net, alloc, node, release, paths)?;
+    let answers = pages_at(net, alloc, node, release, &lent(alloc, paths)?)?;
     let url = node.url.as_str();
     let parts = parts_of(alloc, paths, &answers, &views, own)?;
     let taken = those_of(alloc, url, Which::Taken, paths, &answers, &views)?;
