@@ -187,7 +187,7 @@ fn tell_difference<E: Write>(
     Ok(say_made(err, format!(in alloc; "{url}/@{release}{path}: {why}"))?)
 }
 
-/// So many pages or paths are told one by one, and then how many more there are.
+/// So many pages or paths are reported one by one, and then how many more there are.
 pub(crate) const TOLD: usize = 10;
 
 /// Tells how many pages more are not shown than were told.

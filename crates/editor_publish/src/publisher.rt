@@ -28,7 +28,7 @@ use std::rt::{Clock, Files};
 use std::time::{SystemTime, UNIX_EPOCH};
 
 /// A publication under way: the group that it goes to, and the ledger that it is kept in, which is saved as
-/// it changes. Causes are told to `err`, and what it came to is kept in its outcome.
+/// it changes. It writes causes to `err`, and keeps in its outcome what it came to.
 #[derive(Drop)]
 pub(crate) struct Publisher<'a, R, E> {
     pub rt: &'a R,
@@ -56,7 +56,7 @@ impl<R: Files + Net<Stream = TcpStream> + Clock + AllocGlobal, E: Write> Publish
         Ok(())
     }
 
-    /// Sends what is on its way, and saves what came of it, also where it came to no end.
+    /// Sends what is on its way, and saves what came of it, also if it failed.
     fn send(&mut self) -> Result<(), EditorFault> {
         let patience = self.how.patience;
         let mut saved = save(self.rt, self.how.folder, self.ledger)?;
@@ -86,7 +86,7 @@ impl<R: Files + Net<Stream = TcpStream> + Clock + AllocGlobal, E: Write> Publish
         Ok(self.group.node()?.url.as_str())
     }
 
-    /// The newest release, where the node that is spoken to tells it.
+    /// The newest release, if the node that is spoken to tells it.
     fn newest_told(&self) -> Result<Option<u64>, EditorFault> {
         Ok(newest(self.rt, self.rt.alloc(), self.group.node()?)?)
     }
@@ -241,7 +241,7 @@ impl<R: Files + Net<Stream = TcpStream> + Clock + AllocGlobal, E: Write> Publish
     }
 
     /// Brings a folder of these texts into the group, some of them again, beside those that stay though the
-    /// folder has them no more, and releases it: the release that was made last, or nothing where nothing has
+    /// folder has them no more, and releases it: the release that was made last, or nothing if nothing has
     /// changed.
     fn make_release(
         &mut self,
@@ -360,8 +360,8 @@ impl<R: Files + Net<Stream = TcpStream> + Clock + AllocGlobal, E: Write> Publish
         Ok(taken)
     }
 
-    /// Refuses to take over what others have put, unless that is asked for. What it is is told, and is the
-    /// answer.
+    /// Reports what is taken over, and returns it. It refuses to take over what others have put, unless that
+    /// is asked for.
     fn ask_to_take_over(&mut self, wanted: &[&str]) -> Result<Taken, EditorFault> {
         let taken = self.taken(wanted)?;
         tell_taken_over(self.rt.alloc(), self.err, &taken)?;
@@ -419,7 +419,7 @@ impl<R: Files + Net<Stream = TcpStream> + Clock + AllocGlobal, E: Write> Publish
 
     /// Tells what a publication of these texts would put, remove and take over; if it would send nothing,
     /// whether the group shows the folder. Nothing is sent or saved. If the publication would be refused, so
-    /// is this, once all is told.
+    /// is this, after all is reported.
     fn tell_plan<W: Write>(&mut self, out: &mut W, wanted: &[&str]) -> Result<Found, EditorFault> {
         let seen = self.look(out, wanted)?;
         let (alloc, ledger) = (self.rt.alloc(), &mut *self.ledger);

@@ -28,8 +28,8 @@ fn held<R: Files<File = File> + AllocGlobal>(
 }
 
 /// Publishes a folder to the nodes of these URLs, which have the logins that the word names a file of, and
-/// gives the exit status: 1 where it has a fault, or is not shown then. What it came to is kept in the
-/// outcome.
+/// returns the exit status: 1 if the folder has a fault, or the group does not show it then. What it came to
+/// is kept in the outcome.
 pub fn publish<
     R: Files<File = File>
         + Net<Stream = TcpStream>
