@@ -284,8 +284,8 @@ impl<
     }
 }
 
-/// Does what the command line says, and returns the exit status: 1 if something was refused or failed, 2 for a
-/// line that is none. Either is written to the other writer.
+/// Does what the command line says, and returns the exit status: 1 if something was refused or failed, 2 for
+/// a line that is none. Either is written to the other writer.
 pub fn sitepub<
     'a,
     R: Files<File = File>
