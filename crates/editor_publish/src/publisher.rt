@@ -56,7 +56,7 @@ impl<R: Files + Net<Stream = TcpStream> + Clock + AllocGlobal, E: Write> Publish
         Ok(())
     }
 
-    /// Sends what is on its way, and saves what came of it, also if it failed.
+    /// Sends what is on its way, and saves what came of it, also where it came to no end.
     fn send(&mut self) -> Result<(), EditorFault> {
         let patience = self.how.patience;
         let mut saved = save(self.rt, self.how.folder, self.ledger)?;
@@ -81,11 +81,6 @@ impl<R: Files + Net<Stream = TcpStream> + Clock + AllocGlobal, E: Write> Publish
         saved
     }
 
-    /// The URL of the node that is spoken to.
-    fn url(&self) -> Result<&str, EditorFault> {
-        Ok(self.group.node()?.url.as_str())
-    }
-
     /// The newest release, if the node that is spoken to tells it.
     fn newest_told(&self) -> Result<Option<u64>, EditorFault> {
         Ok(newest(self.rt, self.rt.alloc(), self.group.node()?)?)
@@ -95,7 +90,7 @@ impl<R: Files + Net<Stream = TcpStream> + Clock + AllocGlobal, E: Write> Publish
     fn newest(&self) -> Result<u64, EditorFault> {
         match self.newest_told()? {
             Some(release) => Ok(release),
-            None => Err(untold(self.rt.alloc(), self.url()?)?),
+            None => Err(untold(self.rt.alloc(), self.group.node()?.url.as_str())?),
         }
     }
 
@@ -103,7 +98,7 @@ impl<R: Files + Net<Stream = TcpStream> + Clock + AllocGlobal, E: Write> Publish
     fn number_made(&self) -> Result<u64, EditorFault> {
         match self.newest_told()? {
             Some(release) => Ok(release),
-            None => Err(unnumbered(self.rt.alloc(), self.url()?)?),
+            None => Err(unnumbered(self.rt.alloc(), self.group.node()?.url.as_str())?),
         }
     }
 
@@ -132,7 +127,7 @@ impl<R: Files + Net<Stream = TcpStream> + Clock + AllocGlobal, E: Write> Publish
     /// Keeps a release that was made in the outcome, under a name.
     fn keep_made(&mut self, name: &str, made: Made) -> Result<(), EditorFault> {
         let alloc = self.rt.alloc();
-        let value = made_value(alloc, self.url()?, made)?;
+        let value = made_value(alloc, self.group.node()?.url.as_str(), made)?;
         Ok(self.outcome.put(alloc, name, value)?)
     }
 
@@ -151,7 +146,7 @@ impl<R: Files + Net<Stream = TcpStream> + Clock + AllocGlobal, E: Write> Publish
         self.note(made)?;
         self.save()?;
         self.keep_made("found", made)?;
-        tell_made(self.rt.alloc(), out, self.url()?, made)?;
+        tell_made(self.rt.alloc(), out, self.group.node()?.url.as_str(), made)?;
         Ok(Some(made))
     }
 
@@ -302,7 +297,7 @@ impl<R: Files + Net<Stream = TcpStream> + Clock + AllocGlobal, E: Write> Publish
         views: &[View],
     ) -> Result<Shown, EditorFault> {
         self.keep_made("release", made)?;
-        tell_made(self.rt.alloc(), out, self.url()?, made)?;
+        tell_made(self.rt.alloc(), out, self.group.node()?.url.as_str(), made)?;
         self.shown(made.release, views)
     }
 
