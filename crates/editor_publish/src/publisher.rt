@@ -347,7 +347,15 @@ impl<R: Files + Net<Stream = TcpStream> + Clock + AllocGlobal, E: Write> Publish
         let (alloc, take_over) = (self.rt.alloc(), self.how.take_over);
         let release = self.newest()?;
         let node = self.group.node()?;
-        let taken = taken_over(self.rt, alloc, node, release, self.ledger, wanted, take_over)?;
+        let taken = taken_over(
+            self.rt,
+            alloc,
+            node,
+            release,
+            self.ledger,
+            wanted,
+            take_over,
+        )?;
         self.outcome
             .put(alloc, "takes_over", texts_value(alloc, &taken.paths)?)?;
         self.outcome
