@@ -344,18 +344,10 @@ impl<R: Files + Net<Stream = TcpStream> + Clock + AllocGlobal, E: Write> Publish
 
     /// What a publication takes over, and what it leaves to others. It is kept in the outcome.
     fn taken(&mut self, wanted: &[&str]) -> Result<Taken, EditorFault> {
-        let (alloc, take_over) = (self.rt.alloc(), self.how.take_over);
+        let (rt, alloc, take_over) = (self.rt, self.rt.alloc(), self.how.take_over);
         let release = self.newest()?;
         let node = self.group.node()?;
-        let taken = taken_over(
-            self.rt,
-            alloc,
-            node,
-            release,
-            self.ledger,
-            wanted,
-            take_over,
-        )?;
+        let taken = taken_over(rt, alloc, node, release, self.ledger, wanted, take_over)?;
         self.outcome
             .put(alloc, "takes_over", texts_value(alloc, &taken.paths)?)?;
         self.outcome
