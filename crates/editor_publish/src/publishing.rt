@@ -31,6 +31,7 @@ fn held<R: Files<File = File> + AllocGlobal>(
 /// returns the exit status: 1 if the folder has a fault, or the group does not show it then. What it came to
 /// is kept in the outcome.
 pub fn publish<
+    'a,
     R: Files<File = File>
         + Net<Stream = TcpStream>
         + Clock
@@ -41,11 +42,11 @@ pub fn publish<
     W: Write,
     E: Write,
 >(
-    rt: &R,
+    rt: &'a R,
     out: &mut W,
-    err: &mut E,
-    outcome: &mut Outcome,
-    how: &PublishWord<'_>,
+    err: &'a mut E,
+    outcome: &'a mut Outcome,
+    how: &'a PublishWord<'a>,
     urls: &[&str],
 ) -> Result<u8, EditorFault>
     ensures nobody { urls.now ≡ [] → how.now.dry_run ≡ false → IsErr result }
