@@ -1,11 +1,8 @@
 //! A publication under way.
-ghost use Rattle.std.specs.Prelude.{IfOk};
-ghost use Rattle.editor_publish.specs.Endings.{MayEnd};
-
 use crate::asked::Asked;
 use crate::comparing::{expected, tell_differences};
 use crate::dry_run::{Found, Seen, tell_plan};
-use crate::ending::{Ending, Shown};
+use crate::ending::Shown;
 use crate::made::{
     Made, commands_of, is_exact, made_value, release_ticket, tell_made, unnumbered, untold,
 };
@@ -381,7 +378,11 @@ impl<R: Files + Net<Stream = TcpStream> + Clock + AllocGlobal, E: Write> Publish
     }
 
     /// Publishes texts, once the group has confirmed their ledger.
-    fn run<W: Write>(&mut self, out: &mut W, wanted: &[&str]) -> Result<Shown, EditorFault> {
+    pub(crate) fn run<W: Write>(
+        &mut self,
+        out: &mut W,
+        wanted: &[&str],
+    ) -> Result<Shown, EditorFault> {
         let (folder, patience) = (self.how.folder, self.how.patience);
         confirm(self.rt, self.err, folder, self.group, self.ledger, patience)?;
         let found = self.note_unlogged(out)?;
@@ -415,7 +416,11 @@ impl<R: Files + Net<Stream = TcpStream> + Clock + AllocGlobal, E: Write> Publish
     /// Tells what a publication of these texts would put, remove and take over; if it would send nothing,
     /// whether the group shows the folder. Nothing is sent or saved. If the publication would be refused, so
     /// is this, after all is reported.
-    fn tell_plan<W: Write>(&mut self, out: &mut W, wanted: &[&str]) -> Result<Found, EditorFault> {
+    pub(crate) fn tell_plan<W: Write>(
+        &mut self,
+        out: &mut W,
+        wanted: &[&str],
+    ) -> Result<Found, EditorFault> {
         let seen = self.look(out, wanted)?;
         let (alloc, ledger) = (self.rt.alloc(), &mut *self.ledger);
         let sends = tell_plan(alloc, out, self.outcome, ledger, wanted, seen.taken())?;
@@ -432,21 +437,5 @@ impl<R: Files + Net<Stream = TcpStream> + Clock + AllocGlobal, E: Write> Publish
             }
         }
         Ok(Found { sends, shown })
-    }
-
-    /// Publishes texts, or in a dry run tells what would be sent.
-    pub(crate) fn run_or_tell<W: Write>(
-        &mut self,
-        out: &mut W,
-        wanted: &[&str],
-    ) -> Result<Ending, EditorFault>
-        ensures { IfOk result (MayEnd self.old.how.now.dry_run self.old.how.now.exit_code) }
-    {
-        let how = self.how;
-        if how.dry_run {
-            let found = self.tell_plan(out, wanted)?;
-            return Ok(Ending::of_dry_run(found, how.exit_code));
-        }
-        Ok(Ending::of(self.run(out, wanted)?))
     }
 }

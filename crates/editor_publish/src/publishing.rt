@@ -1,6 +1,6 @@
 //! A folder becomes the next release of a group.
 ghost use Rattle.std.specs.Prelude.{◌≡◌, [], false, IfOk, IsErr};
-ghost use Rattle.editor_publish.specs.Endings.{IsStatus};
+ghost use Rattle.editor_publish.specs.Endings.{IsStatus, MayEnd};
 
 use crate::ending::Ending;
 use crate::next_release::NextRelease;
@@ -27,11 +27,44 @@ fn held<R: Files<File = File> + AllocGlobal>(
     Ok(Some(hold(rt, how.folder)?))
 }
 
+/// Publishes what becomes the next release, or in a dry run tells what would be sent.
+fn run_or_tell<
+    'a,
+    R: Files + Net<Stream = TcpStream> + Clock + RandomSource + AllocGlobal,
+    W: Write,
+    E: Write,
+>(
+    rt: &'a R,
+    out: &mut W,
+    err: &'a mut E,
+    outcome: &'a mut Outcome,
+    group: &'a mut Group,
+    how: &'a PublishWord<'a>,
+    next: NextRelease,
+) -> Result<Ending, EditorFault>
+    ensures { IfOk result (MayEnd how.now.dry_run how.now.exit_code) }
+{
+    let NextRelease { texts, mut ledger } = next;
+    let wanted = texts.lent(rt.alloc())?;
+    let mut publisher = Publisher {
+        rt,
+        err,
+        outcome,
+        group,
+        ledger: &mut ledger,
+        how,
+    };
+    if how.dry_run {
+        let found = publisher.tell_plan(out, &wanted)?;
+        return Ok(Ending::of_dry_run(found, how.exit_code));
+    }
+    Ok(Ending::of(publisher.run(out, &wanted)?))
+}
+
 /// Publishes a folder to the nodes of these URLs, which have the logins that the word names a file of, and
 /// returns the exit status: 1 if the folder has a fault, or the group does not show it then. What it came to
 /// is kept in the outcome.
 pub fn publish<
-    'a,
     R: Files<File = File>
         + Net<Stream = TcpStream>
         + Clock
@@ -42,11 +75,11 @@ pub fn publish<
     W: Write,
     E: Write,
 >(
-    rt: &'a R,
+    rt: &R,
     out: &mut W,
-    err: &'a mut E,
-    outcome: &'a mut Outcome,
-    how: &'a PublishWord<'a>,
+    err: &mut E,
+    outcome: &mut Outcome,
+    how: &PublishWord<'_>,
     urls: &[&str],
 ) -> Result<u8, EditorFault>
     ensures nobody { urls.now ≡ [] → how.now.dry_run ≡ false → IsErr result }
@@ -58,18 +91,10 @@ pub fn publish<
     }
     let mut group = Group::of(rt.alloc(), urls)?;
     let held = held(rt, how)?;
-    let Some(NextRelease { texts, mut ledger }) = NextRelease::of(rt, err, outcome, how)? else {
-        return Ok(Ending::Bad.status());
+    let ending = match NextRelease::of(rt, err, outcome, how)? {
+        Some(next) => run_or_tell(rt, out, err, outcome, &mut group, how, next)?,
+        None => Ending::Bad,
     };
-    let ending = Publisher {
-        rt,
-        err,
-        outcome,
-        group: &mut group,
-        ledger: &mut ledger,
-        how,
-    }
-    .run_or_tell(out, &texts.lent(rt.alloc())?)?;
     drop(held);
     Ok(ending.status())
 }
