@@ -8,7 +8,7 @@ use Rattle.editor_http.specs.declared.node_answer.NodeAnswer.{NodeAnswer}
 abbrev pub shows : NodeAnswer → View → Bool
 shows answer view = answer.status == view.status && bytes_eq answer.body.items (string_bytes view.body)
 
--- a release has to show each page of the folder; nothing, where a text of the publication is about a path
--- without a page; and what it may, where the path is left to another editor
+-- a release has to show each page of the folder; and nothing at a path without a page, if a text of the
+-- publication is about the path. It may show anything at a path that is left to another editor
 abbrev pub is_compared : ℕ → Bool → Bool → Bool
 is_compared status touched left = (not (status == 404) || touched) && not left

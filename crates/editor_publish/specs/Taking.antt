@@ -1,11 +1,13 @@
 -- Which paths are taken over, by what a node answers for each of them.
-use Rattle.std.specs.Prelude.{ℕ, ◌+◌, ◌==◌, ◌&&◌, not, List, [], ◌∷◌, Bool, true, false, if◌then◌else◌}
+use Rattle.std.specs.Prelude.{ℕ, ◌+◌, ◌&&◌, not, List, [], ◌∷◌, Bool, false, if◌then◌else◌}
 use Rattle.std.specs.Prelude.{Option, Some, None, string_bytes, slice_get, unwrap_or, Vec}
 use Rattle.std.specs.List.{list_any}
 use Rattle.std.specs.declared.alloc.Global.{Global}
 use Rattle.editor_folder.specs.declared.views.View.{View}
 use Rattle.editor_http.specs.declared.node_answer.NodeAnswer.{NodeAnswer}
 use Rattle.editor_plan.specs.Takings.{is_taken}
+use Rattle.editor_publish.specs.declared.asked.Which.{Which}
+use Rattle.editor_publish.specs.declared.asked.Which.TheVariants.{Taken, Others, Fresh}
 use Rattle.editor_publish.specs.Comparing.{shows}
 
 abbrev pub shows_some : NodeAnswer → Option View → Bool
@@ -22,32 +24,18 @@ is_fresh answer place [] = false
 is_fresh answer place (released ∷ since) =
     is_own answer place (released ∷ since) && not (shows_some answer (slice_get released.items place))
 
-abbrev pub takes : NodeAnswer → ℕ → List (Vec View Global) → Bool
-takes answer place states = unwrap_or (is_taken answer.status (is_own answer place states)) false
+-- a path is taken over; or is not the folder's own, be it that nothing is there any more; or shows what the
+-- folder has put since its last release
+abbrev pub has : Which → NodeAnswer → ℕ → List (Vec View Global) → Bool
+has Taken answer place states = unwrap_or (is_taken answer.status (is_own answer place states)) false
+has Others answer place states = not (is_own answer place states)
+has Fresh answer place states = is_fresh answer place states
 
--- those of the paths, the first of which has that place, that are taken over
-abbrev pub taken_of : List (Vec View Global) → ℕ → List (List ℕ) → List NodeAnswer → List (List ℕ)
-taken_of states place [] answers = []
-taken_of states place (path ∷ paths) [] = []
-taken_of states place (path ∷ paths) (answer ∷ answers) =
-    if takes answer place states
-    then path ∷ taken_of states (place + 1) paths answers
-    else taken_of states (place + 1) paths answers
-
--- those that are not the folder's own, be it that nothing is there any more
-abbrev pub others_of : List (Vec View Global) → ℕ → List (List ℕ) → List NodeAnswer → List (List ℕ)
-others_of states place [] answers = []
-others_of states place (path ∷ paths) [] = []
-others_of states place (path ∷ paths) (answer ∷ answers) =
-    if not (is_own answer place states)
-    then path ∷ others_of states (place + 1) paths answers
-    else others_of states (place + 1) paths answers
-
--- those that show what the folder has put since its last release
-abbrev pub fresh_of : List (Vec View Global) → ℕ → List (List ℕ) → List NodeAnswer → List (List ℕ)
-fresh_of states place [] answers = []
-fresh_of states place (path ∷ paths) [] = []
-fresh_of states place (path ∷ paths) (answer ∷ answers) =
-    if is_fresh answer place states
-    then path ∷ fresh_of states (place + 1) paths answers
-    else fresh_of states (place + 1) paths answers
+-- those of the paths, the first of which has that place
+abbrev pub those_of : Which → List (Vec View Global) → ℕ → List (List ℕ) → List NodeAnswer → List (List ℕ)
+those_of which states place [] answers = []
+those_of which states place (path ∷ paths) [] = []
+those_of which states place (path ∷ paths) (answer ∷ answers) =
+    if has which answer place states
+    then path ∷ those_of which states (place + 1) paths answers
+    else those_of which states (place + 1) paths answers

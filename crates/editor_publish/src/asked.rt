@@ -4,17 +4,18 @@
 //! same moment: so they are asked for again once the folder's commands are in the log, before they are
 //! released. The other editor's release may show a part of these commands, as they came into the log one
 //! after another.
-ghost use Rattle.std.specs.Prelude.{◌≡◌, map, slice_get, IfOk, string_bytes};
-ghost use Rattle.editor_publish.specs.Taking.{shows_some, is_own, is_fresh, takes, taken_of, others_of};
-ghost use Rattle.editor_publish.specs.Taking.{fresh_of};
+ghost use Rattle.std.specs.Prelude.{◌≡◌, map, slice_get, true, Some, IfOk, string_bytes};
+ghost use Rattle.editor_plan.specs.Takings.{is_of_page};
+ghost use Rattle.editor_publish.specs.Taking.{shows_some, is_own, is_fresh, has, those_of};
 
-use crate::comparing::shows;
+use crate::comparing::{pages_at, shows};
 use crate::own::OwnTexts;
 use editor_common::EditorFault;
+use editor_files::lent;
 use editor_folder::View;
-use editor_group::{Address, ask};
-use editor_http::{NodeAnswer, Question};
-use editor_plan::is_taken;
+use editor_group::Address;
+use editor_http::NodeAnswer;
+use editor_plan::{is_of_page, is_taken};
 use std::alloc::{AllocError, Global};
 use std::collections::BTreeSet;
 use std::net::{Net, TcpStream};
@@ -30,9 +31,7 @@ pub(crate) struct Asked {
     pub states: Vec<Vec<String>>,
 }
 
-/// Of the paths that were compared, those that others took over; those that the group does not show as the
-/// folder's: these, and paths where nothing is any more; and those that it shows as the folder's, and not as
-/// at the folder's last release.
+/// The paths that were compared, by `Which`. A path that shows a part of the folder's plan is fresh.
 #[derive(Drop)]
 pub(crate) struct Compared {
     pub taken: Vec<String>,
@@ -49,21 +48,6 @@ impl Compared {
             fresh: Vec::new(alloc),
         }
     }
-}
-
-/// The answers of a node for paths of a release.
-fn answers_at<N: Net<Stream = TcpStream>>(
-    net: &N,
-    alloc: Global,
-    node: &Address,
-    release: u64,
-    paths: &[String],
-) -> Result<Vec<NodeAnswer>, AllocError> {
-    let questions: Vec<Question<'_>> = paths
-        .iter()
-        .map(|path| Question::Page(release, path.as_str()))
-        .collect(alloc)?;
-    ask(net, alloc, node, &questions)
 }
 
 /// Whether the view at that place is what was answered.
@@ -103,91 +87,66 @@ fn unanswered(alloc: Global, url: &str, path: &str) -> Result<EditorFault, Alloc
     Ok(EditorFault::Stop(format!(in alloc; "{url}{path}: was not answered")?))
 }
 
-/// Whether a path is taken over, by what a node answered for it; a status that no node gives is a fault.
-fn takes(
+/// The answer for a path; a fault if there is none, or none that a node gives.
+fn page_answer<'a>(
     alloc: Global,
     url: &str,
     path: &str,
-    place: usize,
-    answer: &NodeAnswer,
-    states: &[Vec<View>],
-) -> Result<bool, EditorFault>
-    ensures { IfOk result (λ taken. taken ≡ takes answer.now place states.now) }
+    answer: Option<&'a NodeAnswer>,
+) -> Result<&'a NodeAnswer, EditorFault>
+    ensures { IfOk result (λ found. (answer.entry ≡ Some found) × (is_of_page found.now.status ≡ true)) }
 {
-    match is_taken(answer.status, is_own(answer, states, place)) {
-        Some(taken) => Ok(taken),
-        None => Err(unanswered(alloc, url, path)?),
+    match answer {
+        Some(answer) if is_of_page(answer.status) => Ok(answer),
+        _ => Err(unanswered(alloc, url, path)?),
     }
 }
 
-/// Those of the paths that are taken over, by a node's answers, if the folder's own texts show these
-/// views.
-fn taken_of(
+/// Which of the paths that were compared.
+#[derive(Clone, Copy)]
+enum Which {
+    /// Those that others took over.
+    Taken,
+    /// Those that are not shown as the folder's, be it that nothing is there any more.
+    Others,
+    /// Those that are shown as what the folder has put since its last release.
+    Fresh,
+}
+
+impl Which {
+    /// Whether the path at that place is one of them, by what a node answered for it.
+    fn has(self, answer: &NodeAnswer, states: &[Vec<View>], place: usize) -> bool
+        ensures { result ≡ has self answer.now place states.now }
+    {
+        let own = is_own(answer, states, place);
+        match self {
+            Which::Taken => is_taken(answer.status, own).unwrap_or(false),
+            Which::Others => !own,
+            Which::Fresh => is_fresh(answer, states, place),
+        }
+    }
+}
+
+/// Those of the paths, by a node's answers, if the folder's own texts show these views.
+fn those_of(
     alloc: Global,
     url: &str,
+    which: Which,
     paths: &[String],
     answers: &[NodeAnswer],
     states: &[Vec<View>],
 ) -> Result<Vec<String>, EditorFault>
-    ensures { IfOk result (λ taken. map string_bytes taken.items
-        ≡ taken_of states.now 0 (map string_bytes paths.now) answers.now) }
+    ensures { IfOk result (λ those. map string_bytes those.items
+        ≡ those_of which states.now 0 (map string_bytes paths.now) answers.now) }
 {
-    let mut taken = Vec::new(alloc);
+    let mut those = Vec::new(alloc);
     for (i, path) in paths.iter().enumerate() {
-        let Some(answer) = answers.get(i) else {
-            return Err(unanswered(alloc, url, path.as_str())?);
-        };
-        if takes(alloc, url, path.as_str(), i, answer, states)? {
-            taken.push(path.clone()?)?;
+        let answer = page_answer(alloc, url, path.as_str(), answers.get(i))?;
+        if which.has(answer, states, i) {
+            those.push(path.clone()?)?;
         }
     }
-    Ok(taken)
-}
-
-/// Those of the paths that a node's answers do not show as the folder's own.
-fn others_of(
-    alloc: Global,
-    url: &str,
-    paths: &[String],
-    answers: &[NodeAnswer],
-    states: &[Vec<View>],
-) -> Result<Vec<String>, EditorFault>
-    ensures { IfOk result (λ others. map string_bytes others.items
-        ≡ others_of states.now 0 (map string_bytes paths.now) answers.now) }
-{
-    let mut others = Vec::new(alloc);
-    for (i, path) in paths.iter().enumerate() {
-        let Some(answer) = answers.get(i) else {
-            return Err(unanswered(alloc, url, path.as_str())?);
-        };
-        if !is_own(answer, states, i) {
-            others.push(path.clone()?)?;
-        }
-    }
-    Ok(others)
-}
-
-/// Those of the paths that a node's answers show as what the folder has put since its last release.
-fn fresh_of(
-    alloc: Global,
-    url: &str,
-    paths: &[String],
-    answers: &[NodeAnswer],
-    states: &[Vec<View>],
-) -> Result<Vec<String>, EditorFault>
-    ensures { IfOk result (λ fresh. map string_bytes fresh.items
-        ≡ fresh_of states.now 0 (map string_bytes paths.now) answers.now) }
-{
-    let mut fresh = Vec::new(alloc);
-    for (i, path) in paths.iter().enumerate() {
-        let Some(answer) = answers.get(i) else {
-            return Err(unanswered(alloc, url, path.as_str())?);
-        };
-        if is_fresh(answer, states, i) {
-            fresh.push(path.clone()?)?;
-        }
-    }
-    Ok(fresh)
+    Ok(those)
 }
 
 /// Those of the paths that a node's answers show as none of the folder's states has them, but as it has them
@@ -238,12 +197,12 @@ pub(crate) fn compare<N: Net<Stream = TcpStream>>(
         return Ok(Compared::none(alloc));
     }
     let views = own.views(alloc, paths)?;
-    let answers = answers_at(net, alloc, node, release, paths)?;
+    let answers = pages_at(net, alloc, node, release, &lent(alloc, paths)?)?;
     let url = node.url.as_str();
     let parts = parts_of(alloc, paths, &answers, &views, own)?;
-    let taken = taken_of(alloc, url, paths, &answers, &views)?;
-    let others = others_of(alloc, url, paths, &answers, &views)?;
-    let mut fresh = fresh_of(alloc, url, paths, &answers, &views)?;
+    let taken = those_of(alloc, url, Which::Taken, paths, &answers, &views)?;
+    let others = those_of(alloc, url, Which::Others, paths, &answers, &views)?;
+    let mut fresh = those_of(alloc, url, Which::Fresh, paths, &answers, &views)?;
     let (taken, others) = (apart(alloc, taken, &parts)?, apart(alloc, others, &parts)?);
     let mut parts: Vec<String> = parts.into_iter().collect(alloc)?;
     fresh.append(&mut parts)?;

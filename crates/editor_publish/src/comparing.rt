@@ -5,6 +5,7 @@ ghost use Rattle.std.specs.Prelude.{◌≡◌};
 ghost use Rattle.editor_publish.specs.Comparing.{is_compared, shows};
 
 use editor_common::{EditorFault, say_made};
+use editor_files::lent;
 use editor_folder::{View, path_in, views_of};
 use editor_group::{Address, ask};
 use editor_http::{NodeAnswer, Question};
@@ -150,12 +151,7 @@ pub(crate) fn changes_since(
     if ledger.next_texts(alloc, after)?.is_empty() {
         return Ok(Vec::new(alloc));
     }
-    let kept: Vec<&str> = ledger
-        .kept()
-        .iter()
-        .map(|text| text.as_str())
-        .collect(alloc)?;
-    changes_of(alloc, &kept, after)
+    changes_of(alloc, &lent(alloc, ledger.kept())?, after)
 }
 
 /// Whether an answer is what a view shows.
@@ -191,8 +187,8 @@ fn tell_difference<E: Write>(
     Ok(say_made(err, format!(in alloc; "{url}/@{release}{path}: {why}"))?)
 }
 
-/// So many pages are told one by one, and then how many more there are.
-const TOLD: usize = 10;
+/// So many pages or paths are reported one by one, and then how many more there are.
+pub(crate) const TOLD: usize = 10;
 
 /// Tells how many pages more are not shown than were told.
 fn tell_more<E: Write>(
@@ -255,17 +251,17 @@ fn tell_all<E: Write>(
     Ok(differing)
 }
 
-/// The answers of a node for the paths of these views in a release.
-fn pages_at<N: Net<Stream = TcpStream>>(
+/// The answers of a node for paths of a release.
+pub(crate) fn pages_at<N: Net<Stream = TcpStream>>(
     net: &N,
     alloc: Global,
     node: &Address,
     release: u64,
-    views: &[View],
+    paths: &[&str],
 ) -> Result<Vec<NodeAnswer>, AllocError> {
-    let questions: Vec<Question<'_>> = views
+    let questions: Vec<Question<'_>> = paths
         .iter()
-        .map(|view| Question::Page(release, view.path.as_str()))
+        .map(|path| Question::Page(release, *path))
         .collect(alloc)?;
     ask(net, alloc, node, &questions)
 }
@@ -279,6 +275,7 @@ pub(crate) fn tell_differences<N: Net<Stream = TcpStream>, E: Write>(
     release: u64,
     views: &[View],
 ) -> Result<Vec<String>, EditorFault> {
-    let answers = pages_at(net, alloc, node, release, views)?;
+    let paths: Vec<&str> = views.iter().map(|view| view.path.as_str()).collect(alloc)?;
+    let answers = pages_at(net, alloc, node, release, &paths)?;
     tell_all(alloc, err, node.url.as_str(), release, views, &answers)
 }

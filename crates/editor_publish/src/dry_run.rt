@@ -19,6 +19,26 @@ pub(crate) struct Found {
     pub shown: Shown,
 }
 
+/// What a dry run sees of the group.
+#[derive(Drop)]
+pub(crate) enum Seen {
+    /// Nothing: no node is named.
+    NoNode,
+    /// What the publication would take over.
+    Taken(Taken),
+    /// Why the publication would be refused.
+    Refused(EditorFault),
+}
+
+impl Seen {
+    pub(crate) fn taken(&self) -> Option<&Taken> {
+        match self {
+            Seen::Taken(taken) => Some(taken),
+            Seen::NoNode | Seen::Refused(_) => None,
+        }
+    }
+}
+
 /// The first line of a command.
 fn head_of(text: &str) -> &str {
     text.lines().next().unwrap_or("")

@@ -33,7 +33,7 @@ fn has_texts(alloc: Global, read: &Read, texts: &[&str]) -> Result<bool, AllocEr
     put_the_same(alloc, &texts_of(alloc, &read.folder)?, texts)
 }
 
-/// Tells where the files of a folder are not those of a release that was published again.
+/// Reports if the files of a folder are not those of a release that is published again.
 pub(crate) fn tell_disk<R: Files + AllocGlobal + Clone + Drop, E: Write>(
     rt: &R,
     err: &mut E,

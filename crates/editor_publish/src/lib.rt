@@ -1,12 +1,12 @@
 //! A folder of a site becomes the next release of a group.
 //!
-//! `publishing.rt` reads the folder and its ledger; `publisher.rt` has the way from there: the group is asked
-//! whether the file `published` is the newest, what changed is sent and released, and `comparing.rt` looks
-//! whether the release shows the folder. `going_back.rt` is for a release of before. `taking_over.rt` reports
-//! what a publication would take over from others, `asked.rt` which paths are theirs, `own.rt` what is shown
-//! of the folder itself, `replacing.rt` what an interrupted run has replaced, `renewing.rt` which texts are
-//! put again then, `dry_run.rt` what one would send; `made.rt` reports the release that was made, and
-//! `ending.rt` has the status. What else is decided, `editor_plan` says; `editor_files` reads and saves,
+//! `next_release.rt` reads the folder and its ledger; `publisher.rt` has the way from there: the group is
+//! asked whether the file `published` is the newest, what changed is sent and released, and `comparing.rt`
+//! looks whether the release shows the folder. `going_back.rt` is for an earlier release. `taking_over.rt`
+//! reports what a publication would take over from others, `asked.rt` which paths are theirs, `own.rt` what
+//! is shown of the folder itself, `replacing.rt` what an interrupted run has replaced, `renewing.rt` which
+//! texts are put again then, `dry_run.rt` what one would send; `made.rt` reports the release that was made,
+//! and `ending.rt` has the status. What else is decided, `editor_plan` says; `editor_files` reads and saves,
 //! `editor_group` asks and sends.
 #![tactic(auto)]
 
@@ -16,6 +16,7 @@ mod dry_run;
 mod ending;
 mod going_back;
 mod made;
+mod next_release;
 mod own;
 mod publisher;
 mod publishing;

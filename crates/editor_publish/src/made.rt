@@ -9,7 +9,7 @@ use serde_json::{Value, json};
 use std::alloc::{AllocError, Global};
 use std::io::Write;
 
-/// A release that was made: its number, or one above it where others released as well; whether an interrupted
+/// A release that was made: its number, or one above it if others released as well; whether an interrupted
 /// run had begun it; and how many commands it shows that none showed before.
 #[derive(Clone, Copy)]
 pub(crate) struct Made {

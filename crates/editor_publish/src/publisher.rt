@@ -1,7 +1,7 @@
 //! A publication under way.
 use crate::asked::Asked;
 use crate::comparing::{expected, tell_differences};
-use crate::dry_run::{Found, tell_plan};
+use crate::dry_run::{Found, Seen, tell_plan};
 use crate::ending::Shown;
 use crate::made::{
     Made, commands_of, is_exact, made_value, release_ticket, tell_made, unnumbered, untold,
@@ -25,7 +25,7 @@ use std::rt::{Clock, Files};
 use std::time::{SystemTime, UNIX_EPOCH};
 
 /// A publication under way: the group that it goes to, and the ledger that it is kept in, which is saved as
-/// it changes. Causes are told to `err`, and what it came to is kept in its outcome.
+/// it changes. It writes causes to `err`, and keeps in its outcome what it came to.
 #[derive(Drop)]
 pub(crate) struct Publisher<'a, R, E> {
     pub rt: &'a R,
@@ -78,27 +78,25 @@ impl<R: Files + Net<Stream = TcpStream> + Clock + AllocGlobal, E: Write> Publish
         saved
     }
 
+    /// The newest release, if the node that is spoken to tells it.
+    fn newest_told(&self) -> Result<Option<u64>, EditorFault> {
+        Ok(newest(self.rt, self.rt.alloc(), self.group.node()?)?)
+    }
+
     /// The newest release of the node that is spoken to.
     fn newest(&self) -> Result<u64, EditorFault> {
-        let node = self.group.node()?;
-        match newest(self.rt, self.rt.alloc(), node)? {
+        match self.newest_told()? {
             Some(release) => Ok(release),
-            None => Err(untold(self.rt.alloc(), node.url.as_str())?),
+            None => Err(untold(self.rt.alloc(), self.group.node()?.url.as_str())?),
         }
     }
 
     /// The number of the release that was made, by the node that is spoken to.
     fn number_made(&self) -> Result<u64, EditorFault> {
-        let node = self.group.node()?;
-        match newest(self.rt, self.rt.alloc(), node)? {
+        match self.newest_told()? {
             Some(release) => Ok(release),
-            None => Err(unnumbered(self.rt.alloc(), node.url.as_str())?),
+            None => Err(unnumbered(self.rt.alloc(), self.group.node()?.url.as_str())?),
         }
-    }
-
-    /// The newest release, where the node that is spoken to tells it.
-    fn newest_told(&self) -> Result<Option<u64>, EditorFault> {
-        Ok(newest(self.rt, self.rt.alloc(), self.group.node()?)?)
     }
 
     /// Keeps in the log that a release was made. It is not saved.
@@ -235,7 +233,7 @@ impl<R: Files + Net<Stream = TcpStream> + Clock + AllocGlobal, E: Write> Publish
     }
 
     /// Brings a folder of these texts into the group, some of them again, beside those that stay though the
-    /// folder has them no more, and releases it: the release that was made last, or nothing where nothing has
+    /// folder has them no more, and releases it: the release that was made last, or nothing if nothing has
     /// changed.
     fn make_release(
         &mut self,
@@ -343,9 +341,10 @@ impl<R: Files + Net<Stream = TcpStream> + Clock + AllocGlobal, E: Write> Publish
 
     /// What a publication takes over, and what it leaves to others. It is kept in the outcome.
     fn taken(&mut self, wanted: &[&str]) -> Result<Taken, EditorFault> {
-        let (alloc, take_over) = (self.rt.alloc(), self.how.take_over);
+        let (rt, alloc, take_over) = (self.rt, self.rt.alloc(), self.how.take_over);
+        let release = self.newest()?;
         let node = self.group.node()?;
-        let taken = taken_over(self.rt, alloc, node, self.ledger, wanted, take_over)?;
+        let taken = taken_over(rt, alloc, node, release, self.ledger, wanted, take_over)?;
         self.outcome
             .put(alloc, "takes_over", texts_value(alloc, &taken.paths)?)?;
         self.outcome
@@ -353,8 +352,8 @@ impl<R: Files + Net<Stream = TcpStream> + Clock + AllocGlobal, E: Write> Publish
         Ok(taken)
     }
 
-    /// Refuses to take over what others have put, unless that is asked for. What it is is told, and is the
-    /// answer.
+    /// Reports what is taken over, and returns it. It refuses to take over what others have put, unless that
+    /// is asked for.
     fn ask_to_take_over(&mut self, wanted: &[&str]) -> Result<Taken, EditorFault> {
         let taken = self.taken(wanted)?;
         tell_taken_over(self.rt.alloc(), self.err, &taken)?;
@@ -391,68 +390,50 @@ impl<R: Files + Net<Stream = TcpStream> + Clock + AllocGlobal, E: Write> Publish
         self.send_and_show(out, wanted, taken, found)
     }
 
-    /// Tells what a publication of these texts would take over: that is the answer, if the node that is
-    /// spoken to says it. Why a publication would be refused is kept.
-    fn tell_taken<W: Write>(
-        &mut self,
-        out: &mut W,
-        wanted: &[&str],
-        refused: &mut Option<EditorFault>,
-    ) -> Result<Option<Taken>, EditorFault> {
+    /// Tells what a publication of these texts would take over, if the node that is spoken to says it.
+    fn see_taken<W: Write>(&mut self, out: &mut W, wanted: &[&str]) -> Result<Seen, EditorFault> {
         match self.taken(wanted) {
             Ok(taken) => {
                 tell_taken_over(self.rt.alloc(), out, &taken)?;
-                Ok(Some(taken))
+                Ok(Seen::Taken(taken))
             }
-            Err(EditorFault::Stop(why)) => {
-                *refused = Some(EditorFault::Stop(why));
-                Ok(None)
-            }
+            Err(EditorFault::Stop(why)) => Ok(Seen::Refused(EditorFault::Stop(why))),
             Err(fault) => Err(fault),
         }
     }
 
-    /// Tells what a publication would take over, if the group confirms its ledger: that is the answer. Why
-    /// the publication would be refused is kept.
-    fn look<W: Write>(
-        &mut self,
-        out: &mut W,
-        wanted: &[&str],
-        refused: &mut Option<EditorFault>,
-    ) -> Result<Option<Taken>, EditorFault> {
+    /// Tells what a publication would take over, if the group confirms its ledger.
+    fn look<W: Write>(&mut self, out: &mut W, wanted: &[&str]) -> Result<Seen, EditorFault> {
         if self.group.nodes().is_empty() {
-            return Ok(None);
+            return Ok(Seen::NoNode);
         }
         match look_at(self.rt, self.err, self.how.folder, self.group, self.ledger)? {
-            Look::Confirmed => self.tell_taken(out, wanted, refused),
-            Look::Refused(why) => {
-                *refused = Some(why);
-                Ok(None)
-            }
+            Look::Confirmed => self.see_taken(out, wanted),
+            Look::Refused(why) => Ok(Seen::Refused(why)),
         }
     }
 
     /// Tells what a publication of these texts would put, remove and take over; if it would send nothing,
     /// whether the group shows the folder. Nothing is sent or saved. If the publication would be refused, so
-    /// is this, once all is told.
+    /// is this, after all is reported.
     pub(crate) fn tell_plan<W: Write>(
         &mut self,
         out: &mut W,
         wanted: &[&str],
     ) -> Result<Found, EditorFault> {
-        let mut refused = None;
-        let taken = self.look(out, wanted, &mut refused)?;
+        let seen = self.look(out, wanted)?;
         let (alloc, ledger) = (self.rt.alloc(), &mut *self.ledger);
-        let sends = tell_plan(alloc, out, self.outcome, ledger, wanted, taken.as_ref())?;
-        if let Some(why) = refused {
-            return Err(why);
-        }
+        let sends = tell_plan(alloc, out, self.outcome, ledger, wanted, seen.taken())?;
         let mut shown = Shown::Whole;
-        if let Some(taken) = taken {
-            self.refuse(&taken)?;
-            if !sends {
-                let views = self.expected(wanted, &taken.left)?;
-                shown = self.shown(taken.release, &views)?;
+        match seen {
+            Seen::NoNode => {}
+            Seen::Refused(why) => return Err(why),
+            Seen::Taken(taken) => {
+                self.refuse(&taken)?;
+                if !sends {
+                    let views = self.expected(wanted, &taken.left)?;
+                    shown = self.shown(taken.release, &views)?;
+                }
             }
         }
         Ok(Found { sends, shown })

@@ -3,192 +3,18 @@ ghost use Rattle.std.specs.Prelude.{◌≡◌, [], false, IfOk, IsErr};
 ghost use Rattle.editor_publish.specs.Endings.{IsStatus, MayEnd};
 
 use crate::ending::Ending;
-use crate::going_back::tell_disk;
+use crate::next_release::NextRelease;
 use crate::publisher::Publisher;
-use editor_common::{EditorFault, Outcome, say_made};
-use editor_files::{
-    Clean, Read, clean_of, hold, lent, list_findings, new_editor, read_folder, read_ledger,
-    release_texts, texts_of,
-};
+use editor_common::{EditorFault, Outcome};
+use editor_files::hold;
 use editor_group::Group;
-use editor_ledger::Ledger;
 use editor_options::PublishWord;
 use serde_json::Value;
-use std::alloc::{AllocError, Global};
 use std::fs::File;
 use std::io::Write;
 use std::net::{Net, TcpStream};
 use std::random::RandomSource;
 use std::rt::{Clock, Files};
-
-/// Why a ledger is not that of the editor who is named.
-fn belongs(alloc: Global, folder: &str, editor: u32) -> Result<EditorFault, AllocError> {
-    Ok(EditorFault::Stop(format!(in alloc; "{folder}/published: belongs to editor {editor}")?))
-}
-
-fn new_ledger<R: RandomSource + AllocGlobal>(
-    rt: &R,
-    editor: Option<u32>,
-) -> Result<Ledger, EditorFault> {
-    match editor {
-        Some(editor) => Ok(Ledger::new(rt.alloc(), editor)),
-        None => Ok(Ledger::new(rt.alloc(), new_editor(rt)?)),
-    }
-}
-
-/// The ledger of a folder, or a new one.
-fn ledger_of<R: Files + RandomSource + AllocGlobal>(
-    rt: &R,
-    folder: &str,
-    editor: Option<u32>,
-) -> Result<Ledger, EditorFault> {
-    match read_ledger(rt, folder)? {
-        Some(ledger) => {
-            let owner = ledger.editor();
-            if owner != editor.unwrap_or(owner) {
-                return Err(belongs(rt.alloc(), folder, owner)?);
-            }
-            Ok(ledger)
-        }
-        None => new_ledger(rt, editor),
-    }
-}
-
-/// Publishes texts into the group of some addresses, or tells what would be.
-fn run_or_tell<
-    'a,
-    R: Files + Net<Stream = TcpStream> + Clock + RandomSource + AllocGlobal,
-    W: Write,
-    E: Write,
->(
-    rt: &'a R,
-    out: &mut W,
-    err: &'a mut E,
-    outcome: &'a mut Outcome,
-    group: &'a mut Group,
-    how: &'a PublishWord<'a>,
-    mut ledger: Ledger,
-    wanted: &[&str],
-) -> Result<Ending, EditorFault>
-    ensures { IfOk result (MayEnd how.now.dry_run how.now.exit_code) }
-{
-    let mut publisher = Publisher {
-        rt,
-        err,
-        outcome,
-        group,
-        ledger: &mut ledger,
-        how,
-    };
-    if how.dry_run {
-        let found = publisher.tell_plan(out, wanted)?;
-        return Ok(Ending::of_dry_run(found, how.exit_code));
-    }
-    Ok(Ending::of(publisher.run(out, wanted)?))
-}
-
-/// Tells that a folder has no page.
-fn tell_no_page<E: Write>(alloc: Global, err: &mut E, folder: &str) -> Result<(), EditorFault> {
-    Ok(say_made(
-        err,
-        format!(in alloc;
-            "{folder}: no page, so nothing was sent: each line of its file routes is one"
-        ),
-    )?)
-}
-
-/// Publishes a folder without a fault.
-fn publish_site<
-    R: Files + Net<Stream = TcpStream> + Clock + RandomSource + AllocGlobal,
-    W: Write,
-    E: Write,
->(
-    rt: &R,
-    out: &mut W,
-    err: &mut E,
-    outcome: &mut Outcome,
-    group: &mut Group,
-    how: &PublishWord<'_>,
-    clean: &Clean,
-) -> Result<Ending, EditorFault>
-    ensures { IfOk result (MayEnd how.now.dry_run how.now.exit_code) }
-{
-    if clean.pages.is_empty() {
-        tell_no_page(rt.alloc(), err, how.folder)?;
-        return Ok(Ending::Bad);
-    }
-    let wanted = texts_of(rt.alloc(), &clean.folder)?;
-    let ledger = ledger_of(rt, how.folder, how.editor)?;
-    run_or_tell(rt, out, err, outcome, group, how, ledger, &wanted)
-}
-
-/// Keeps what is wrong with a folder that was read.
-fn keep_findings(alloc: Global, outcome: &mut Outcome, read: &Read) -> Result<(), AllocError> {
-    let mut findings = Vec::new(alloc);
-    list_findings(alloc, &mut findings, &read.findings)?;
-    outcome.put(alloc, "findings", Value::Array(findings))
-}
-
-/// Reads a folder, and publishes it where it has no fault.
-fn check_then_publish<
-    R: Files + Net<Stream = TcpStream> + Clock + RandomSource + AllocGlobal + Clone + Drop,
-    W: Write,
-    E: Write,
->(
-    rt: &R,
-    out: &mut W,
-    err: &mut E,
-    outcome: &mut Outcome,
-    group: &mut Group,
-    how: &PublishWord<'_>,
-) -> Result<Ending, EditorFault>
-    ensures { IfOk result (MayEnd how.now.dry_run how.now.exit_code) }
-{
-    let read = read_folder(rt, how.folder, how.ignore)?;
-    keep_findings(rt.alloc(), outcome, &read)?;
-    match clean_of(rt.alloc(), err, how.folder, read)? {
-        Some(clean) => publish_site(rt, out, err, outcome, group, how, &clean),
-        None => Ok(Ending::Bad),
-    }
-}
-
-/// The ledger of a folder that has published.
-fn ledger_there<R: Files + RandomSource + AllocGlobal>(
-    rt: &R,
-    how: &PublishWord<'_>,
-) -> Result<Ledger, EditorFault> {
-    let ledger = ledger_of(rt, how.folder, how.editor)?;
-    if ledger.next() == 1 {
-        let folder = how.folder;
-        return Err(EditorFault::Stop(format!(in rt.alloc();
-            "{folder}: nothing was published from here"
-        )?));
-    }
-    Ok(ledger)
-}
-
-/// Publishes a release of a folder's history once more. The folder's files stay as they are.
-fn publish_again<
-    R: Files + Net<Stream = TcpStream> + Clock + RandomSource + AllocGlobal + Clone + Drop,
-    W: Write,
-    E: Write,
->(
-    rt: &R,
-    out: &mut W,
-    err: &mut E,
-    outcome: &mut Outcome,
-    group: &mut Group,
-    how: &PublishWord<'_>,
-    release: u64,
-) -> Result<Ending, EditorFault>
-    ensures { IfOk result (MayEnd how.now.dry_run how.now.exit_code) }
-{
-    let ledger = ledger_there(rt, how)?;
-    let texts = release_texts(rt.alloc(), how.folder, &ledger, release)?;
-    let wanted = lent(rt.alloc(), &texts)?;
-    tell_disk(rt, err, outcome, how, release, &wanted)?;
-    run_or_tell(rt, out, err, outcome, group, how, ledger, &wanted)
-}
 
 /// The folder, held while it is published; a dry run holds nothing.
 fn held<R: Files<File = File> + AllocGlobal>(
@@ -201,9 +27,43 @@ fn held<R: Files<File = File> + AllocGlobal>(
     Ok(Some(hold(rt, how.folder)?))
 }
 
+/// Publishes what becomes the next release, or in a dry run tells what would be sent.
+fn run_or_tell<
+    'a,
+    R: Files + Net<Stream = TcpStream> + Clock + RandomSource + AllocGlobal,
+    W: Write,
+    E: Write,
+>(
+    rt: &'a R,
+    out: &mut W,
+    err: &'a mut E,
+    outcome: &'a mut Outcome,
+    group: &'a mut Group,
+    how: &'a PublishWord<'a>,
+    next: NextRelease,
+) -> Result<Ending, EditorFault>
+    ensures { IfOk result (MayEnd how.now.dry_run how.now.exit_code) }
+{
+    let NextRelease { texts, mut ledger } = next;
+    let wanted = texts.lent(rt.alloc())?;
+    let mut publisher = Publisher {
+        rt,
+        err,
+        outcome,
+        group,
+        ledger: &mut ledger,
+        how,
+    };
+    if how.dry_run {
+        let found = publisher.tell_plan(out, &wanted)?;
+        return Ok(Ending::of_dry_run(found, how.exit_code));
+    }
+    Ok(Ending::of(publisher.run(out, &wanted)?))
+}
+
 /// Publishes a folder to the nodes of these URLs, which have the logins that the word names a file of, and
-/// gives the exit status: 1 where it has a fault, or is not shown then. What it came to is kept in the
-/// outcome.
+/// returns the exit status: 1 if the folder has a fault, or the group does not show it then. What it came to
+/// is kept in the outcome.
 pub fn publish<
     R: Files<File = File>
         + Net<Stream = TcpStream>
@@ -231,9 +91,9 @@ pub fn publish<
     }
     let mut group = Group::of(rt.alloc(), urls)?;
     let held = held(rt, how)?;
-    let ending = match how.release {
-        Some(release) => publish_again(rt, out, err, outcome, &mut group, how, release)?,
-        None => check_then_publish(rt, out, err, outcome, &mut group, how)?,
+    let ending = match NextRelease::of(rt, err, outcome, how)? {
+        Some(next) => run_or_tell(rt, out, err, outcome, &mut group, how, next)?,
+        None => Ending::Bad,
     };
     drop(held);
     Ok(ending.status())

@@ -13,15 +13,15 @@
 //!
 //! What another editor puts there only then, `asked.rt` finds; and `replacing.rt` what an interrupted run has
 //! replaced.
-use crate::asked::{Asked, Compared, compare};
-use crate::comparing::{Change, add_paths, changes_of};
-use crate::made::{release_ticket, untold};
+use crate::asked::{Asked, Compared, apart, compare};
+use crate::comparing::{Change, TOLD, add_paths, changes_of};
+use crate::made::release_ticket;
 use crate::own::{OwnTexts, texts_since};
 use crate::renewing::{apart_from, texts_of_pages};
 use crate::replacing::replaced;
 use editor_common::{EditorFault, say_made};
 use editor_files::lent;
-use editor_group::{Address, newest};
+use editor_group::Address;
 use editor_ledger::{Ledger, LedgerFault};
 use editor_plan::{LeftOver, joins, last_shown, left_by, states_of, touched};
 use std::alloc::{AllocError, Global};
@@ -47,9 +47,6 @@ pub(crate) struct Taken {
     /// The paths that are asked for again.
     pub asked: Asked,
 }
-
-/// How many paths are told one by one.
-const TOLD: usize = 10;
 
 /// The paths of pages that change, and those that texts are about, each once.
 fn paths_of(
@@ -91,12 +88,18 @@ fn compared_paths(
     paths_of(alloc, &changes, &touched)
 }
 
+/// These paths, each once.
+fn set_of(alloc: Global, paths: &[String]) -> Result<BTreeSet<String>, AllocError> {
+    let mut set = BTreeSet::new(alloc);
+    for path in paths {
+        let _ = set.insert(path.clone()?)?;
+    }
+    Ok(set)
+}
+
 /// These paths, and all that the wanted texts are about.
 fn with_all(alloc: Global, paths: &[String], wanted: &[&str]) -> Result<Vec<String>, AllocError> {
-    let mut all = BTreeSet::new(alloc);
-    for path in paths {
-        let _ = all.insert(path.clone()?)?;
-    }
+    let mut all = set_of(alloc, paths)?;
     add_paths(alloc, &mut all, wanted)?;
     all.into_iter().collect(alloc)
 }
@@ -151,15 +154,6 @@ fn taken_and_left(
     parted(alloc, paths, &about)
 }
 
-/// Those of the paths that are not among these.
-fn without(alloc: Global, paths: Vec<String>, these: &[String]) -> Result<Vec<String>, AllocError> {
-    let mut about = BTreeSet::new(alloc);
-    for path in these {
-        let _ = about.insert(path.clone()?)?;
-    }
-    Ok(parted(alloc, paths, &about)?.1)
-}
-
 /// The paths that are taken over: those that others took over, and those where commands of an interrupted run
 /// have replaced what others put, after the release `shown`. And those that are not the folder's. It compares
 /// the paths that a publication changes; and all of the folder's, if some of them are taken over or
@@ -212,18 +206,16 @@ fn staying(
     apart_from(alloc, texts, wanted)
 }
 
-/// What a publication of texts takes over in a node's newest release, and what it leaves there.
+/// What a publication of texts takes over in a node's newest release, `release`, and what it leaves there.
 pub(crate) fn taken_over<N: Net<Stream = TcpStream>>(
     net: &N,
     alloc: Global,
     node: &Address,
+    release: u64,
     ledger: &Ledger,
     wanted: &[&str],
     take_over: bool,
 ) -> Result<Taken, EditorFault> {
-    let Some(release) = newest(net, alloc, node)? else {
-        return Err(untold(alloc, node.url.as_str())?);
-    };
     let states = states_of(alloc, ledger)?;
     let compared = compared_paths(alloc, ledger, &states, wanted)?;
     let shown = if is_begun(ledger) {
@@ -241,7 +233,8 @@ pub(crate) fn taken_over<N: Net<Stream = TcpStream>>(
     )?;
     drop(plan);
     let (paths, left) = taken_and_left(alloc, ledger, wanted, taken, take_over)?;
-    let asked = without(alloc, without(alloc, compared, &paths)?, &left)?;
+    let asked = apart(alloc, compared, &set_of(alloc, &paths)?)?;
+    let asked = apart(alloc, asked, &set_of(alloc, &left)?)?;
     Ok(Taken {
         release,
         paths,

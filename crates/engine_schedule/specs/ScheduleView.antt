@@ -46,11 +46,12 @@ IsFoundNodes bytes (found_nodes.Nodes n rest) = IsNode 9 n × (bytes ≡ spelled
 IsFoundNodes bytes found_nodes.Short = HasNoNodes bytes
 IsFoundNodes bytes found_nodes.Bad = GetsNoNodes bytes
 
--- what is at the front is there, or never will be
+-- a line is at the front, or none ever will be
 abbrev pub IsDecided : List ℕ → Type 0
 IsDecided bytes =
     ((line : Line) × (rest : List ℕ) × Fits line × (bytes ≡ spelled line ++ rest)) ⊎ GetsNoLine bytes
 
+-- the same of a first line
 abbrev pub AreDecided : List ℕ → Type 0
 AreDecided bytes =
     ((n : ℕ) × (rest : List ℕ) × IsNode 9 n × (bytes ≡ spelled_nodes n ++ rest)) ⊎ GetsNoNodes bytes

@@ -1,5 +1,5 @@
 -- Which bytes have a line of a script at their front.
-use Rattle.std.proofs.Common.{◌≡◌, ◌≢◌, ℕ, suc, ◌<◌, ◌≤◌, ◌^◌, ◌+◌, List, [], ◌∷◌, ◌++◌, length, codes, decimal, refl, sym, ap, ap₂, ◌∙◌, arith, append_assoc, length-append}
+use Rattle.std.proofs.Common.{◌≡◌, ◌≢◌, ℕ, ◌<◌, ◌≤◌, ◌^◌, List, [], ◌∷◌, ◌++◌, length, codes, decimal, refl, sym, ap, ap₂, ◌∙◌, arith, append_assoc}
 use Rattle.std.proofs.lemmas.Fmt.{decimal_injective}
 use Rattle.std.proofs.lemmas.List.{append_cancel_left}
 use Rattle.site_ids.specs.Ids.{IsNode}
@@ -8,11 +8,10 @@ use Rattle.engine_common.specs.Cuts.{IsCut, Lacks}
 use Rattle.engine_common.specs.Submissions.{joined}
 use Rattle.engine_script.specs.Laws.{OneScriptLine}
 use Rattle.engine_script.specs.Script.{Line, post_line, get_line, turns_line, drive_line, post_words, words, body, spelled, FitsPost, Fits, HasNoLine, GetsNoLine}
-use Rattle.engine_common.proofs.CutLemmas.{Same, no_cut, one_cut}
 use Rattle.engine_common.proofs.CutLemmas.{lacks-decimal}
 use Rattle.engine_common.proofs.LineLemmas.{same_submission, number_cut, one_word}
 use Rattle.engine_common.proofs.Lines as lines
-use Rattle.engine_common.proofs.Texts.{lacks-last, lacks-number, lacks-behind, begins_so, behind_text, cut_more, HasText}
+use Rattle.engine_common.proofs.Texts.{lacks-last, lacks-number, lacks-behind, begins_so, HasText}
 use Rattle.engine_common.proofs.Texts.{one_text}
 
 -- ---- no newline stands in the words of a line

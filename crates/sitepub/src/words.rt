@@ -23,13 +23,13 @@ use std::rt::{Clock, Env, Files};
 /// What a command line is refused with that is no UTF-8.
 const NOT_UTF8: &str = "error: invalid UTF-8 was detected in one or more arguments";
 
-/// What is told where memory is refused.
+/// What is written if an allocation failed.
 const OUT_OF_MEMORY: &str = "out of memory";
 
 /// What `--version` prints: the heading of `docs/CHANGES.md` that this is of.
 const VERSION: &str = "sitepub 1.0";
 
-/// Writes a line, where that can be written, and gives the exit status that goes with it.
+/// Writes a line, if that can be written, and returns the exit status that goes with it.
 fn tell<W: Write, L: Display>(out: &mut W, line: &L, status: u8) -> u8 {
     let _ = writeln!(out, "{line}");
     status
@@ -205,7 +205,7 @@ impl<
         }
     }
 
-    /// Does what a word says, and gives the exit status. That it came to no end is told, and kept in the
+    /// Does what a word says, and returns the exit status. If it fails, why is written, and kept in the
     /// outcome.
     fn status_of(&mut self, outcome: &mut Outcome, word: &Word<'_>) -> u8 {
         match self.done(outcome, word) {
@@ -217,8 +217,8 @@ impl<
         }
     }
 
-    /// Does what a word says. Where the status is not 0, what it tells on the other writer is written at its
-    /// end, behind the table of `status`, which says why.
+    /// Does what a word says. If the status is not 0, what it tells on the other writer is written at its
+    /// end, after the table of `status`, which says why.
     fn quiet_status_of(&mut self, outcome: &mut Outcome, word: &Word<'_>) -> u8 {
         let mut table: Vec<u8> = Vec::new(self.rt.alloc());
         let mut told: Vec<u8> = Vec::new(self.rt.alloc());
@@ -284,8 +284,8 @@ impl<
     }
 }
 
-/// Does what the command line says, and gives the exit status: 1 where something was refused or came to no
-/// end, 2 for a line that is none. Either is told on the other writer.
+/// Does what the command line says, and returns the exit status: 1 if something was refused or failed, 2 for
+/// a line that is none. Either is written to the other writer.
 pub fn sitepub<
     'a,
     R: Files<File = File>

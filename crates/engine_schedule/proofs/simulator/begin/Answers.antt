@@ -1,4 +1,4 @@
-use Rattle.std.proofs.Common.{◌∙◌, ◌⊎◌, sym, ap, Err}
+use Rattle.std.proofs.Common.{rules, ◌∙◌, ◌⊎◌, sym, ap, Err}
 use Rattle.std.specs.Io.KnownBytes.{IsAtEnd}
 use Rattle.std.proofs.lemmas.Result.{err_from_is_err_and}
 use Rattle.http_read.specs.Bytes.{end_of}
@@ -19,8 +19,8 @@ returns-in_default g c =
     let decided : AreDecided c.fill.new.feed ⊎ IsAtEnd (end_of g.R.Read.remaining c.args.reader.now c.fill.new.reader).after = search rules in
     (c.fill.new.feed, f.0, bad_nodes (end_of g.R.Read.remaining c.args.reader.now c.fill.new.reader) c.fill.new.feed c.nodes_in.result decided (rw c.held-held.ensures at c.nodes_in.ensures) c.in_default.not-Nodes)
 
-pub returns-in_ok-new : goal.returns-in_ok-new
-returns-in_ok-new g c =
+pub returns : goal.returns
+returns g c =
     let f = c.in_ok-fill.ensures in
     record {
       n = c.in-Nodes.cluster;

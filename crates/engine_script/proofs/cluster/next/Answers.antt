@@ -1,4 +1,4 @@
-use Rattle.std.proofs.Common.{◌∙◌, ◌⊎◌, ap, sym, subst, Err, List, ℕ}
+use Rattle.std.proofs.Common.{rules, ◌∙◌, ◌⊎◌, ap, sym, subst, Err, List, ℕ}
 use Rattle.std.specs.Io.KnownBytes.{IsAtEnd}
 use Rattle.std.proofs.lemmas.Result.{err_from_is_err_and}
 use Rattle.http_read.specs.Bytes.{end_of}

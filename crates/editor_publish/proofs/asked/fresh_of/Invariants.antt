@@ -1,9 +1,0 @@
-use Rattle.std.proofs.Common.{◌≡◌, ◌++◌, map, drop, string_bytes}
-use Rattle.editor_publish.specs.Taking.{fresh_of}
-use Rattle.editor_publish.proofs.asked.fresh_of.Given as goal
-
--- those so far, and those of the paths that are left
-abbrev pub invariant-loop-i : goal.invariant-loop-i
-invariant-loop-i l =
-    map string_bytes l.fresh.items ++ fresh_of l.states l.i (map string_bytes (drop l.i l.paths)) (drop l.i l.answers)
-    ≡ fresh_of l.states 0 (map string_bytes l.paths) l.answers
