@@ -1,4 +1,4 @@
-//! A reader and a writer in memory that work in pieces and fail when they are told to: for tests.
+//! For tests: a reader and a writer in memory that work in pieces and fail when a test wants it.
 #![tactic(auto)]
 
 mod pieces;

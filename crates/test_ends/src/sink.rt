@@ -1,4 +1,4 @@
-//! A writer with so much room.
+//! A writer with limited room.
 ghost use Rattle.std.specs.Prelude.{Some};
 
 use std::alloc::Global;

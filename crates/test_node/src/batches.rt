@@ -1,5 +1,6 @@
-//! A batch of calls: judged by what is in memory, and whichever call of its seal fails, all of it is found
-//! when the node is opened again, or none of it. This is no schedule, since each line of one is synced alone.
+//! A batch of calls is judged by what is in memory. Whichever call of its seal fails, the node finds all of
+//! it when it is opened again, or none of it. This is no schedule, since each line of a schedule is synced by
+//! itself.
 use crate::failures::FAILURES;
 use crate::heard::Heard;
 use crate::peer::Call;
@@ -10,9 +11,9 @@ use node::NodeFault;
 use std::alloc::Global;
 use std::process::Abort;
 
-/// A batch that puts a round, a promise and a vote on record: the vote is at the ballot promised in it.
-/// Within it a request is judged by what was put before it: node 3 is refused as it prepares round 1, below
-/// the promise.
+/// A batch that puts a round, a promise and a vote on record. The vote is at the ballot promised in the
+/// batch. Within the batch a request is judged by what was put before it: node 3 is refused when it prepares
+/// round 1, below the promise.
 const JUDGED: &[Step] = &[
     Step::Calls(Call::Begin),
     Step::Calls(Call::Tick),
@@ -25,7 +26,7 @@ const JUDGED: &[Step] = &[
 /// Its seal makes four calls of the device.
 const SEALED: &[Step] = &[Step::Arm(4), Step::Calls(Call::Seal)];
 
-/// A seal that fails, and what the node says then.
+/// A seal that fails, and what the node returns after it.
 const NOT_SEALED: &[Step] = &[
     Step::Fails(Call::Seal, NodeFault::Device),
     Step::Stopped,
@@ -77,7 +78,7 @@ fn a_device_fails_at_each_call_of_a_seal(rt: HostRuntime) {
     find(&rt, rt.alloc(), &[JUDGED, SEALED], Some(0), ALL);
 }
 
-/// Calls after a seal, and a batch that puts nothing on record: it passes over a device that fails at once.
+/// Calls after a seal, and a batch that puts nothing on record: it passes on a device that fails at once.
 const GOES_ON: &[Step] = &[
     Step::Calls(Call::Seal),
     Step::Hears(Heard::Prepare(3, 1, 1, 3)),
@@ -89,7 +90,7 @@ const GOES_ON: &[Step] = &[
     Step::Calls(Call::Seal),
 ];
 
-/// The same as all, where round 3 was promised after the seal.
+/// The same as `ALL`, if round 3 was promised after the seal.
 const ALL_AND_MORE: &[Step] = &[
     Step::Calls(Call::Tick),
     Step::Last(0, Said::Prepare(1, 2, 1)),

@@ -1,7 +1,7 @@
 //! Nodes driven over links: what is sent for what is heard, links that fail, faults, sockets on loopback,
-//! each growth refused: no schedule has datagrams or links. That three agree on a page is the script of
-//! `crates/sitecluster/stdin`. A test owns its servers and lends them to small functions: what owns one is
-//! proved to let it go at each of its ends.
+//! each allocation that fails. No schedule has datagrams or links. The script of `crates/sitecluster/stdin`
+//! shows that three nodes agree on a page. A test owns its servers and lends them to small functions: what
+//! owns one is proved to drop it at each of its ends.
 
 mod batches;
 mod broken;

@@ -1,10 +1,10 @@
 //! Where a device fails within the four calls of a seal.
 
-/// After how many calls the device fails, a choice of the crash, whether what was put is found.
+/// After how many calls the device fails, the choice of the crash, whether what was put is found.
 type Failure = (u32, Option<u8>, bool);
 
-/// After so many calls the device fails. Then the node is opened again, after a crash by a choice or without
-/// one: what was put is found only where its gate was written and not lost.
+/// The device fails after the calls of the row. Then the node is opened again, after a crash by a choice or
+/// without one. What was put is found only if its gate was written and not lost.
 pub(crate) const FAILURES: &[Failure] = &[
     (0, Some(0), false),
     (0, Some(1), false),

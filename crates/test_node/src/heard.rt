@@ -5,14 +5,15 @@ use std::alloc::Global;
 use std::process::Abort;
 use wire::Message;
 
-/// A message of the node whose number stands first.
+/// A message of the node whose number comes first.
 #[derive(Clone, Copy)]
 pub(crate) enum Heard {
-    /// It prepares so many instances from one on: the instance, how many, the round.
+    /// It prepares instances: the first one, how many, the round.
     Prepare(u8, u32, u8, u32),
     /// It proposes a value at an instance, in a round.
     Propose(u8, u32, u32, Text),
-    /// It promises node 1 that round at instance 1, and tells a vote for `v` in that round of node 2.
+    /// It promises node 1 the first round at instance 1, and reports a vote for `v` in the second round, of
+    /// node 2.
     Promise(u8, u32, u32),
     /// It votes for a value at instance 1, in round 1 of node 1.
     Vote(u8, Text),

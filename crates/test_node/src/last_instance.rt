@@ -6,7 +6,7 @@ use crate::said::Said;
 use crate::samples::Text;
 use crate::steps::{Step, play, play_over_a_crash};
 
-/// Sixty-four instances, the last of them the last there is, of which the last alone rises.
+/// Sixty-four instances. The last of them is the last there is, and only that one rises.
 const LONG_SPAN: &[Step] = &[
     Step::Hears(Heard::Prepare(3, 999_937, 63, 1)),
     Step::Many(63),

@@ -1,7 +1,8 @@
 //! Nodes over disks in memory: worked rows of one node, devices that fail at each call of a seal, and each
-//! growth refused. `driven` has nodes that are driven over links, `worlds` runs of whole groups. What lines
-//! of `sitesim` show is a file of examples/schedules or a case of examples/cases/sitesim. Here is what none
-//! shows or does: a message that no node of a group would send, a fault's kind, a batch, a growth refused.
+//! allocation that fails. `driven` has nodes that are driven over links, `worlds` runs of whole groups. What
+//! lines of `sitesim` show is a file of examples/schedules or a case of examples/cases/sitesim. Here is what
+//! no line shows or does: a message that no node of a group would send, a fault's kind, a batch, an
+//! allocation that fails.
 #![tactic(auto)]
 
 #[cfg(test)]

@@ -14,7 +14,7 @@ fn play_above(rt: &impl Abort, alloc: Global, floor: u32, steps: &[Step]) {
     act_all(rt, &mut Peer::replaced(rt, alloc, floor), steps);
 }
 
-/// Requests up to the floor, and of a span that begins there, count for a tick alone.
+/// Requests up to the floor, and for a span that begins there, count only as a reason for a tick.
 const REQUESTS: &[Step] = &[
     Step::Reaches(65, 65),
     Step::Learns(true),
@@ -39,8 +39,8 @@ fn a_mute_node_answers_no_request_up_to_its_floor(rt: HostRuntime) {
     play_above(&rt, rt.alloc(), 65, REQUESTS);
 }
 
-/// It tells what it learned, counts votes, and takes part once it knows all up to its floor, where it stays
-/// mute.
+/// It tells what it learned, and counts votes. It takes part once it knows all up to its floor, and stays
+/// mute up to there.
 const TAKES_PART: &[Step] = &[
     Step::Hears(Heard::Vote(2, RELEASE)),
     Step::Hears(Heard::Vote(3, RELEASE)),
@@ -65,7 +65,7 @@ fn a_node_takes_part_once_it_knows_all_up_to_its_floor(rt: HostRuntime) {
     play_above(&rt, rt.alloc(), 2, TAKES_PART);
 }
 
-/// Where all up to the floor is known, a tick puts its round again.
+/// If all up to the floor is known, a tick puts its round again.
 const TRIES: &[Step] = &[
     Step::Hears(Heard::Chosen(2, 1, NOTHING)),
     Step::Arm(0),

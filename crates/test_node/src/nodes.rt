@@ -1,5 +1,5 @@
-//! Nodes over disks in memory, boxed: what owns one is proved to let it go at each of its ends, and a box is
-//! let go of in one step. What was refused memory is tried once more.
+//! Nodes over disks in memory, in boxes. What owns a node is proved to drop it at each of its ends, and a box
+//! is dropped in one step. What fails because an allocation failed is tried once more.
 ghost use Rattle.site_ids.specs.Ids.{IsNode};
 
 use crate::comparing::{ensure, is_page, same};
@@ -26,8 +26,7 @@ fn format(alloc: Global, cluster: Cluster, me: NodeId) -> Result<MemDisk, Record
     }
 }
 
-/// A record that was just made. A growth that was refused leaves a beginning of it behind, so it is made on
-/// another disk then.
+/// A new record. If an allocation failed, a beginning of it is left, so it is made on another disk then.
 fn formatted(rt: &impl Abort, alloc: Global, cluster: Cluster, me: NodeId) -> MemDisk {
     match format(alloc, cluster, me) {
         Ok(disk) => disk,
@@ -49,7 +48,7 @@ fn open(
     Node::open(alloc, cluster, me, disk)
 }
 
-/// The disk of an opening that was refused memory.
+/// The disk of an opening that failed because an allocation failed.
 fn disk_of(rt: &impl Abort, refused: (RecordFault, MemDisk)) -> MemDisk {
     let (fault, disk) = refused;
     let is_memory = matches!(fault, RecordFault::OutOfMemory | RecordFault::Device);
@@ -74,7 +73,7 @@ fn opened(
     }
 }
 
-/// Node 1 of so many, over a record that was just made.
+/// Node 1 of `size` nodes, over a new record.
 pub(crate) fn fresh(rt: &impl Abort, alloc: Global, size: u8) -> Box<Node<MemDisk>> {
     let cluster = Cluster::new(size).expect(rt, "a cluster");
     let me = cluster.node(1).expect(rt, "a node");
@@ -103,7 +102,7 @@ pub(crate) fn replaced(rt: &impl Abort, alloc: Global, floor: u32) -> Box<Node<M
     boxed(rt, alloc, opened(rt, alloc, cluster, me, disk))
 }
 
-/// A value is submitted, which is let go of here alone.
+/// Submits a value, which is dropped only here.
 pub(crate) fn submit(
     rt: &impl Abort,
     alloc: Global,

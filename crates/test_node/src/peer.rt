@@ -26,12 +26,12 @@ pub(crate) enum Call {
     Widen,
     Publish,
     Submit(Text),
-    /// It tells a node, or 0: all of them, from an instance on.
+    /// It tells a node, or all of them for 0, from an instance on.
     Tell(u8, u32),
     Hear(Heard),
 }
 
-/// A call came to that.
+/// A call returned what was wanted.
 pub(crate) fn ends(rt: &impl Abort, called: Result<(), NodeFault>, wanted: Result<(), NodeFault>) {
     same(rt, called, wanted);
 }
@@ -40,7 +40,7 @@ pub(crate) fn passes(rt: &impl Abort, called: Result<(), NodeFault>) {
     ends(rt, called, Ok(()));
 }
 
-/// How a call ended, whatever it answered.
+/// How a call ended, whatever it returned.
 fn ended<T: Copy>(called: Result<T, NodeFault>) -> Result<(), NodeFault> {
     match called {
         Ok(_) => Ok(()),
@@ -49,7 +49,7 @@ fn ended<T: Copy>(called: Result<T, NodeFault>) -> Result<(), NodeFault> {
 }
 
 impl Peer {
-    /// Node 1 of three, over a record that was just made.
+    /// Node 1 of three, over a new record.
     pub(crate) fn fresh(rt: &impl Abort, alloc: Global) -> Peer {
         Peer {
             alloc,
@@ -77,7 +77,7 @@ impl Peer {
         }
     }
 
-    /// A message of its cluster, which is let go of here alone.
+    /// Delivers a message of its cluster, which is dropped only here.
     pub(crate) fn hear(&mut self, rt: &impl Abort, heard: Heard) -> Result<(), NodeFault> {
         let message = message(rt, self.alloc, self.node.cluster(), heard);
         assert!(rt; message.is_of(self.node.cluster()));

@@ -1,10 +1,11 @@
-//! Each call with one growth refused: it answers as ever, or that memory was refused, and then the next try
-//! answers as ever. Where the disk in memory found none its call failed, so the node is opened again; an
-//! opening is tried twice. No line of `sitesim` refuses memory.
+//! Each call with one allocation that fails. It returns what it always returns, or that an allocation failed,
+//! and then the next try returns what it always returns. If an allocation of the disk in memory failed, its
+//! call failed, so the node is opened again. An opening is tried twice. No line of `sitesim` makes an
+//! allocation fail.
 //!
-//! All is tried twice, since a second program, `tools/gate/refuse-growths`, runs each test once for each
-//! growth of its memory and refuses that one: the first try meets it, the second does not. Alone a test is
-//! refused nothing.
+//! Each test tries everything twice. A second program, `tools/gate/refuse-growths`, runs each test once for
+//! each of its allocations, and makes that one fail: the first try meets it, the second does not. Without
+//! that program no allocation fails.
 use crate::comparing::{ensure, same};
 use crate::heard::Heard;
 use crate::peer::{Call, Peer, ends, passes};
@@ -42,7 +43,7 @@ fn act(rt: &impl Abort, node: &mut Peer, step: Step) -> Result<(), NodeFault> {
     }
 }
 
-/// Why a call is refused where memory was.
+/// Why a call fails if an allocation failed.
 fn cause(node: &Peer) -> NodeFault {
     if node.node.is_stopped() {
         NodeFault::Device
@@ -51,12 +52,12 @@ fn cause(node: &Peer) -> NodeFault {
     }
 }
 
-/// So many messages were handed out, and so many instances are known.
+/// `said` messages were handed out, and `known` instances are known.
 fn is_where(rt: &impl Abort, node: &Peer, said: usize, known: u32) {
     same(rt, (node.out.len(), node.node.known()), (said, known));
 }
 
-/// Whether the step took. One that was refused hands out nothing and makes nothing known.
+/// Whether the step was taken. A step that failed hands out nothing and makes nothing known.
 fn takes(rt: &impl Abort, node: &mut Peer, step: Step) -> bool {
     let said = node.out.len();
     let known = node.node.known();

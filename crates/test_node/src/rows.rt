@@ -57,7 +57,7 @@ fn a_tick_is_wanted_after_a_promise(rt: HostRuntime) {
     play(&rt, rt.alloc(), REACHED);
 }
 
-/// Without a value to try the answer is false, also where no round is left.
+/// Without a value to try, a widening returns false, even if no round is left.
 const NO_ROUND: &[Step] = &[
     Step::Hears(Heard::Nack(2, MAX_ROUND)),
     Step::Widens(Ok(false)),
@@ -93,7 +93,7 @@ const PUTS: &[Call] = &[
     Call::Hear(Heard::Propose(3, 1, 1, NOTHING)),
 ];
 
-/// Where each call of a put fails, and what is found after a crash: the cases `lost-..` of `sitesim`.
+/// The cases `lost-..` of `sitesim` have a put that fails at each call, and what is found after a crash.
 #[test]
 fn a_device_that_fails_stops_the_node(rt: HostRuntime) {
     for &put in PUTS {

@@ -7,7 +7,7 @@ use wire::Message;
 #[derive(Clone, Copy, PartialEq, Eq)]
 enum Kind {
     Prepare,
-    /// Whether it tells a vote.
+    /// Whether it reports a vote.
     Promise(bool),
     Propose,
     Accepted,
@@ -19,23 +19,23 @@ enum Kind {
 /// A message.
 #[derive(Clone, Copy)]
 pub(crate) enum Said {
-    /// A prepare from an instance on, in a round, of so many.
+    /// A prepare: its first instance, its round, and how many instances it is of.
     Prepare(u32, u32, u8),
-    /// A promise at an instance that tells no vote.
+    /// A promise at an instance that reports no vote.
     Promise(u32),
-    /// One that tells a vote of that round.
+    /// A promise that reports a vote of that round.
     Told(u32, u32),
-    /// A proposal of these bytes, wherever it is.
+    /// A proposal of these bytes, at any instance.
     Propose(&'static str),
     /// A vote at an instance, in a round, for these bytes.
     Vote(u32, u32, &'static str),
-    /// A refusal at an instance, which tells that this round was promised.
+    /// A refusal at an instance, which says that this round was promised.
     Nack(u32, u32),
     /// A question about an instance.
     Ask(u32),
 }
 
-/// An instance, a round and a count, 0 where the message has none, or none that is looked at.
+/// An instance, a round and a count; 0 if the message has none, or none that is looked at.
 type Numbers = (u32, u32, u8);
 
 fn kind_of(message: &Message) -> Kind {
@@ -65,7 +65,7 @@ fn numbers_of(message: &Message) -> Numbers {
     }
 }
 
-/// Its value, but nothing of a promise.
+/// The bytes of its value; none for a promise.
 fn bytes_of(message: &Message) -> &[u8] {
     match message {
         Message::Propose { value, .. }
@@ -103,12 +103,12 @@ fn has(message: &Message, said: Said) -> bool {
         && bytes_of(message) == text.as_bytes()
 }
 
-/// Whether that was handed out to the node of that number, or 0: to all.
+/// Whether that was handed out to the node of that number, or to all for 0.
 pub(crate) fn is_said(handed: &(To, Message), to: u8, said: Said) -> bool {
     number_of(&handed.0) == to && has(&handed.1, said)
 }
 
-/// All that was handed out is this, all to one node or to all.
+/// Exactly this was handed out, all of it to one node or to all.
 pub(crate) fn is_all_said(rt: &impl Abort, out: &Outbox, to: u8, wanted: &[Said]) {
     same(rt, out.len(), wanted.len());
     for (handed, &said) in out.iter().zip(wanted) {

@@ -1,4 +1,4 @@
-//! What the rows are made of. A growth that was refused is tried once more.
+//! What the rows are made of. An allocation that failed is tried once more.
 use command::write;
 use site_ids::{Ballot, Cluster, Instance, NodeId, Ticket, Value};
 use std::alloc::Global;

@@ -17,26 +17,26 @@ pub(crate) enum Step {
     Fails(Call, NodeFault),
     /// A message comes, and is taken.
     Hears(Heard),
-    /// Its device fails after so many calls.
+    /// After how many calls its device fails.
     Arm(u32),
-    /// Releases are queued, by the numbers of their tickets up to one.
+    /// Releases are queued, by the numbers of their tickets from the first to the last.
     Queues(u64, u64),
-    /// A command is submitted, and answered so.
+    /// A command is submitted, with this result.
     Submits(Text, Result<Submitted, NodeFault>),
     /// A text is submitted that is no command.
     Unread(Text),
     Widens(Result<bool, NodeFault>),
     /// The newest release.
     Publishes(u64),
-    /// What was handed out is emptied.
+    /// The list of what was handed out is emptied.
     Forget,
-    /// That is all that was handed out, to one node or, 0, to all. Then it is emptied.
+    /// That is all that was handed out, to one node, or to all for 0. Then the list is emptied.
     Says(u8, &'static [Said]),
     /// That was handed out last.
     Last(u8, Said),
-    /// So many messages were handed out.
+    /// How many messages were handed out.
     Many(usize),
-    /// So many values are known without a gap.
+    /// How many values are known without a gap.
     Knows(u32),
     /// The number of a ticket, and the instance of its receipt.
     Receipt(u64, u32),
@@ -88,7 +88,7 @@ fn says(rt: &impl Abort, node: &mut Peer, to: u8, wanted: &[Said]) {
     node.out.clear();
 }
 
-/// Does a step whose answer is more than whether it passed, or looks at what it says.
+/// Does a step whose result is more than whether it passed, or looks at what it says.
 fn answers(rt: &impl Abort, node: &mut Peer, step: Step) {
     match step {
         Step::Submits(text, answer) => same(rt, node.submit(rt, text), answer),

@@ -1,5 +1,5 @@
-//! Worlds over disks in memory: runs that stop at an event or go on over a refusal, each growth refused.
-//! Schedules are files of examples/schedules, and rows of them cases of examples/cases/sitesim.
+//! Worlds over disks in memory: runs that stop at an event or go on after a refusal, and each allocation that
+//! fails. Schedules are files of examples/schedules, and rows of them cases of examples/cases/sitesim.
 
 mod group;
 mod refusals;

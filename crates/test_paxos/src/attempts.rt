@@ -1,4 +1,4 @@
-//! Proposals, votes told and chosen values, by worked rows.
+//! Proposals, told votes and chosen values, by rows that were worked out by hand.
 use crate::comparing::{ensure, same};
 use crate::member::{Member, Sent, Step, play};
 use crate::samples::{ballot, cluster, instance, is_bytes, is_text, node, value};
@@ -49,7 +49,7 @@ const OWN: &[Step] = &[
     Step::Promise(1, 11, 2, Some("own")),
 ];
 
-/// A later attempt stands in the place of an earlier one, and begins anew.
+/// A later attempt replaces an earlier one, and begins anew.
 #[test]
 fn the_own_value_where_no_prior_is_told(rt: HostRuntime) {
     play(&rt, rt.alloc(), 3, 2, OWN);
@@ -70,7 +70,7 @@ const COUNTED: &[Step] = &[
     Step::Open(2),
 ];
 
-/// The last one begun stands in the place of another. Room without an attempt counts for none.
+/// The last attempt begun at an instance replaces the one before. Room without an attempt does not count.
 #[test]
 fn open_attempts_are_counted(rt: HostRuntime) {
     play(&rt, rt.alloc(), 3, 1, COUNTED);
@@ -108,7 +108,7 @@ const SPAN: &[Step] = &[
     Step::Sends(9, Sent::Prepare(4, 1)),
 ];
 
-/// A span that begins within another one stands in the place of what that has there.
+/// A span that begins within another one replaces what that one has there.
 #[test]
 fn attempts_of_a_span_share_a_ballot(rt: HostRuntime) {
     play(&rt, rt.alloc(), 3, 1, SPAN);
@@ -169,7 +169,7 @@ fn is_copy(known: Value, told: &Value) -> bool {
     is_copy
 }
 
-/// What a learner makes known is the value that it is told.
+/// Whether the value becomes known. What becomes known is what the learner is told.
 fn is_told(
     rt: &impl Abort,
     learner: &mut Learner,
@@ -194,7 +194,7 @@ fn tell(rt: &impl Abort, alloc: Global, learner: &mut Learner, row: (u8, u32, u8
     same(rt, is_told(rt, learner, voter, at, &value), known);
 }
 
-/// The votes that are forgotten count no more.
+/// Votes that were forgotten no longer count.
 fn forgets(rt: &impl Abort, alloc: Global, learner: &mut Learner) {
     learner.forget(instance(rt, 1));
     let value = value(rt, alloc, b"v");
@@ -218,7 +218,7 @@ fn votes_at_one_ballot_make_a_value_known(rt: HostRuntime) {
     );
 }
 
-/// The instance, its value, how it is learned (not at all: a conflict), and the first gap then.
+/// The instance, its value, how it is learned (`None`: a conflict), and the first gap then.
 const LEARNED: &[(u32, &str, Option<Learned>, u32)] = &[
     (1, "a", Some(Learned::New), 2),
     (3, "c", Some(Learned::New), 2),
@@ -261,7 +261,7 @@ fn gap_of(log: &ChosenLog) -> Option<Instance> {
     log.next_gap()
 }
 
-/// Three values are known up to the first gap, and the second of them is this one.
+/// Whether three values are known up to the first gap, and the second of them is this one.
 fn has_second(log: &ChosenLog, text: &str) -> bool {
     matches!(log.prefix(), [_, value, _] if is_text(value, text))
 }

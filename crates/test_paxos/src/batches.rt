@@ -1,5 +1,5 @@
-//! Batches: all of one stands or none of it, whichever call of its seal fails and whatever a crash chooses.
-//! Their bytes are those of single puts, after their sum.
+//! A record keeps all of a batch or none of it, whichever call of its seal fails and whatever a crash
+//! chooses. A batch's bytes are those of single puts, after their sum.
 use crate::changes::with_byte;
 use crate::comparing::{ensure, same};
 use crate::damage::is_of;
@@ -17,7 +17,7 @@ use std::alloc::Global;
 use std::process::Abort;
 
 /// How many calls of a seal pass, what the crash chooses, if there is one, and then the file's length and
-/// whether the batch stands.
+/// whether the batch is kept.
 const CRASHES: &[(u32, Option<u8>, u64, bool)] = &[
     (0, None, 11, false),
     (0, Some(0), 11, false),
@@ -41,7 +41,7 @@ const CRASHES: &[(u32, Option<u8>, u64, bool)] = &[
     (4, Some(7), 71, true),
 ];
 
-/// How many calls pass before one fails, and whether the batch stands for the next opening, without a crash.
+/// How many calls pass before one fails, and whether the next opening finds the batch, without a crash.
 const SEALS: &[(u32, bool)] = &[(0, false), (1, false), (2, false), (3, true)];
 
 /// What a crash chooses after an opening.
@@ -68,12 +68,12 @@ const THE_LATER: [u8; 71] =
 const THE_FIRST: [u8; 71] =
     *b"SITEREC1\x02\x03\x01\x00\x00\x00\x0d\x18\x00\x00\x00\x19`\xef\xa0v\xe89\x02\xfd\x01\x00\x00\x00\x05\x01\x00\x00\x00\x01\x01\x00\x00\x00\x0a\x02\x00\x00\x00\x01\x00\x00\x00\x01\x01\x01\x00\x00\x00\x0c\x03\x00\x00\x00\x01\x00\x00\x00\x02\x01ab\x00";
 
-/// The same, the first after its sum, and the third.
+/// The same, the first after its sum, and the third after its own.
 const TWICE: [u8; 89] =
     *b"SITEREC1\x02\x03\x01\x00\x00\x00\x0d\x18\x00\x00\x00\x0a\x9a\xd4\x91\x0b\xa7`7;\x01\x00\x00\x00\x05\x01\x00\x00\x00\x01\x01\x00\x00\x00\x0a\x02\x00\x00\x00\x01\x00\x00\x00\x01\x01\x01\x00\x00\x00\x0d\x18\x00\x00\x00\x11\x89\x04\xd1\xc0\x01d\x07U\x01\x00\x00\x00\x0c\x03\x00\x00\x00\x01\x00\x00\x00\x02\x01ab\x00";
 
-/// Steps that write the entries of `RECORD`, the bytes, and how many writes and syncs there are then, an
-/// opening's among them.
+/// Steps that write the entries of `RECORD`, the bytes, and how many writes and syncs there are then,
+/// including an opening's.
 const WRITERS: &[(&[Step], &[u8], usize)] = &[
     (THREE, &RECORD, 13),
     (IN_ONE_BATCH, &SUMMED, 5),
@@ -103,21 +103,21 @@ const WRITERS: &[(&[Step], &[u8], usize)] = &[
     ),
 ];
 
-/// Steps after the last, which a record that stopped refuses.
+/// Further steps, which a record that stopped refuses.
 const REFUSED: &[Step] = &[Step::Begin, Step::Round(9), Step::Promise(9, 9), Step::Seal];
 
-/// The record tells these rounds.
+/// The record has these rounds.
 fn tells_rounds<D: Disk>(rt: &impl Abort, record: &Record<D>, round: u32, greatest: u32) {
     let rounds = (record.round(), record.greatest_round());
     same(rt, rounds, (round, greatest));
 }
 
-/// Whether a vote at that instance is on record, or none is.
+/// Whether a vote at that instance is on record if `voted`, and none if not.
 fn is_voted<D: Disk>(record: &Record<D>, at: Instance, voted: bool) -> bool {
     record.slot(at).vote.is_some() == voted
 }
 
-/// The record tells the three entries, or none of them.
+/// The record has the three entries, or none of them.
 fn tells<D: Disk>(rt: &impl Abort, record: &Record<D>, all: bool) {
     ensure(rt, is_voted(record, instance(rt, 1), all), all);
     if all {
@@ -129,7 +129,7 @@ fn tells<D: Disk>(rt: &impl Abort, record: &Record<D>, all: bool) {
     }
 }
 
-/// A batch of three, whose seal ends so.
+/// A batch of three, whose seal returns `sealed`.
 fn seal_three<D: Disk>(
     rt: &impl Abort,
     alloc: Global,
@@ -151,7 +151,7 @@ fn is_over<D: Disk>(rt: &impl Abort, alloc: Global, record: &mut Record<D>) {
     }
 }
 
-/// A batch of three, of which so many calls of the disk pass.
+/// A batch of three, of which `calls` calls of the disk pass.
 fn seal_armed<D: Armed>(rt: &impl Abort, alloc: Global, record: &mut Record<D>, calls: u32) {
     ends(rt, record.begin(), Ok(()));
     arm(record, calls);
@@ -170,7 +170,7 @@ fn finds(rt: &impl Abort, alloc: Global, disk: MemDisk, all: bool) {
     drop(record);
 }
 
-/// The file is so long after the crash, and the next opening tells what stands.
+/// After the crash the file has that length, and the next opening finds the batch or not.
 fn crash(rt: &impl Abort, alloc: Global, row: (u32, Option<u8>, u64, bool)) {
     let (calls, choice, length, all) = row;
     let mut record = empty(rt, alloc);
@@ -202,7 +202,7 @@ fn settles(rt: &impl Abort, alloc: Global, calls: u32, choice: u8, all: bool) {
     finds(rt, alloc, crashed_within(record.close(), choice), all);
 }
 
-/// Whatever a crash chooses after an opening, it keeps what that found.
+/// Whatever a crash chooses after an opening, what the opening found is kept.
 #[test]
 fn an_opening_settles_the_batch(rt: HostRuntime) {
     for &(calls, all) in SEALS {
@@ -230,7 +230,7 @@ fn writes_and_syncs(calls: &[Call]) -> usize {
     count
 }
 
-/// How many writes and syncs these steps make, an opening's among them.
+/// How many writes and syncs these steps make, including an opening's.
 fn calls_of(rt: &impl Abort, alloc: Global, steps: &[Step]) -> usize {
     let disk = disk_behind(rt, alloc, steps);
     let calls = writes_and_syncs(disk.calls());
@@ -238,7 +238,7 @@ fn calls_of(rt: &impl Abort, alloc: Global, steps: &[Step]) -> usize {
     calls
 }
 
-/// These steps write these bytes, with so many writes and syncs, an opening's among them.
+/// These steps write these bytes, with `calls` writes and syncs, including an opening's.
 fn write(rt: &impl Abort, alloc: Global, steps: &[Step], wanted: &[u8], calls: usize) {
     let mut disk = disk_behind(rt, alloc, steps);
     same(rt, writes_and_syncs(disk.calls()), calls);
@@ -254,7 +254,7 @@ const SPAN_BATCH: &[Step] = &[Step::Begin, Step::Span(5, 3, 1), Step::Seal];
 
 const EMPTY_BATCH: &[Step] = &[Step::Begin, Step::Seal];
 
-/// However a record's entries came there, their bytes are the same; a batch's stand after their sum.
+/// However a record's entries came there, their bytes are the same. A batch's entries come after their sum.
 #[test]
 fn batches_and_puts_write_the_same_bytes(rt: HostRuntime) {
     let alloc = rt.alloc();
@@ -294,7 +294,7 @@ const FURTHER: &[Step] = &[
     Step::Vote(2, 6, "w"),
 ];
 
-/// The record tells what stood before, and these.
+/// The record has what it had before, and what `FURTHER` put.
 fn tells_further(rt: &impl Abort, record: Record<MemDisk>) {
     tells_rounds(rt, &record, 5, 6);
     is_promised(rt, &record, Some(ballot(rt, 6, 1)));

@@ -1,11 +1,11 @@
-//! The entries that are spelled as another one but for one byte.
+//! The entries that are spelled like another one except for one byte.
 //!
-//! An entry is spelled by its length, its kind, numbers of fixed lengths and, of a vote and of what was
-//! learned, its value. Where the byte stands in the length, the other entry has a beginning of the value,
-//! since nothing stands after the last one; in the kind, it is the other one of a promise and a vote for the
-//! empty value, or of a round and a floor, a vote for one byte in place of a span's promise, or a learned
-//! value in place of any of these; and else in a number or the value. No record here has a vote for one byte,
-//! or a learned value of none or of more than two.
+//! An entry is spelled as its length, its kind, numbers of fixed lengths and, if it is a vote or a learned
+//! value, its value. If the byte is in the length, the other entry has a beginning of the value, since
+//! nothing comes after the last entry. If it is in the kind, a promise and a vote for the empty value take
+//! each other's place, and so do a round and a floor; a vote for one byte takes the place of a span's
+//! promise, and a learned value that of any of these. Otherwise the byte is in a number or the value. No
+//! record here has a vote for one byte, or a learned value of no byte or of more than two.
 use crate::samples::value;
 use site_ids::{Ballot, Cluster, Instance, Value, Vote};
 use std::alloc::Global;
@@ -124,7 +124,7 @@ fn learned(
     Some(Entry::Learned(instance, value(rt, alloc, &bytes)))
 }
 
-/// The floor, where that is an instance.
+/// The floor, if that number is an instance.
 fn floor_of(number: u32) -> Option<Entry> {
     Some(Entry::Floor(Instance::new(number)?))
 }
@@ -152,7 +152,7 @@ fn promise(
     Some(Entry::Promised(instance, promised))
 }
 
-/// The entry with this byte at a place after its kind, where that is an entry.
+/// The entry with this byte at a place after its kind, if that is an entry.
 pub fn changed(
     rt: &impl Abort,
     alloc: Global,
@@ -175,8 +175,8 @@ pub fn changed(
     }
 }
 
-/// The vote for one byte that is spelled as the promise of a span but for its kind: the count is the first
-/// byte of its round, the last byte of the promised round its node, and the promised node its value.
+/// The vote for one byte that is spelled like the promise of a span except for its kind: the count is the
+/// first byte of its round, the last byte of the promised round its node, and the promised node its value.
 fn vote_in_span(
     rt: &impl Abort,
     alloc: Global,
@@ -197,7 +197,7 @@ fn ballot_bytes(ballot: Ballot) -> [u8; 5] {
     [a, b, c, d, ballot.node().number()]
 }
 
-/// A learned value whose bytes are these two after one another.
+/// A learned value whose bytes are `front` and then `rest`.
 fn learned_of(
     rt: &impl Abort,
     alloc: Global,
@@ -210,8 +210,8 @@ fn learned_of(
     Entry::Learned(instance, value(rt, alloc, &bytes))
 }
 
-/// The learned value that is spelled as another entry but for its kind: its instance is the entry's, or its
-/// round, and what stands after that is its value.
+/// The learned value that is spelled like another entry except for its kind. Its instance is the entry's
+/// instance or round, and what comes after that is its value.
 fn learned_in(rt: &impl Abort, alloc: Global, entry: &Entry) -> Option<Entry> {
     Some(match entry {
         Entry::Round(round) => learned_of(rt, alloc, Instance::new(*round)?, b"", b""),
@@ -264,10 +264,10 @@ fn other_of_vote(
     }
 }
 
-/// The entries that take an entry's place with another length or kind, by number from 0 on: of a vote those
-/// above, of a promise the vote for the empty value, of a span's a vote for one byte, of a learned value its
-/// beginnings, of a round a floor, of a floor a round. Last comes the learned value that is spelled so, where
-/// that is another.
+/// The entries that take an entry's place with another length or kind, by number from 0 on. For a vote they
+/// are those of `other_of_vote`, for a promise the vote for the empty value, for a span's promise a vote for
+/// one byte, for a learned value its beginnings, for a round a floor, for a floor a round. Last comes the
+/// learned value that is spelled so, if that is another entry.
 pub fn other(
     rt: &impl Abort,
     alloc: Global,

@@ -26,7 +26,7 @@ const CRASHES: &[(u32, u8, u64, u32)] = &[
     (4, 7, 21, 1),
 ];
 
-/// A put whose disk fails after so many calls, if it makes so many, and another one.
+/// A put whose disk fails after `calls` calls, if it makes more than that; and then another put.
 fn put(rt: &impl Abort, record: &mut Record<MemDisk>, calls: u32) {
     arm(record, calls);
     let put = put_round(record, 1);
@@ -38,7 +38,7 @@ fn put(rt: &impl Abort, record: &mut Record<MemDisk>, calls: u32) {
     }
 }
 
-/// The file is so long after the crash, and the next opening finds the round.
+/// After the crash the file has that length, and the next opening finds the round.
 fn crash(rt: &impl Abort, alloc: Global, row: (u32, u8, u64, u32)) {
     let (calls, choice, length, round) = row;
     let mut record = empty(rt, alloc);

@@ -1,4 +1,4 @@
-//! A record cut at each byte, and with each byte changed. What these bytes come to is computed from the
+//! A record cut at each byte, and with each byte changed. What such bytes stand for is computed from the
 //! definition of a record.
 use crate::changes::with_byte;
 use crate::comparing::{ensure, same};
@@ -17,8 +17,8 @@ use test_record::entry::Entry;
 use test_record::recorded::{self, floor, greatest_round, is_slot, last_round, last_vote, reach};
 use test_record::standing::{refusal, stands_plainly_for};
 
-/// Worked out by hand: a place, a byte there, and of the history for which the record then stands, if it
-/// does, how many entries it has, the last round, and the value that is voted for at instance 1.
+/// Worked out by hand: a place and a byte there. If the record then stands for a history, also how many
+/// entries that has, its last round, and the value that is voted for at instance 1.
 const LISTED: &[(usize, u8, Option<(usize, u32, &str)>)] = &[
     (9, 0, None),
     (11, 1, None),
@@ -39,10 +39,10 @@ const LISTED: &[(usize, u8, Option<(usize, u32, &str)>)] = &[
     (52, 2, Some((3, 1, "ab"))),
 ];
 
-/// How many histories are listed, worked out by hand too. At each of the four gates each byte but 1; in each
-/// of the three kinds that of a learned value, in the first that of a floor; in a number each byte but its
-/// own, less those with which it is 0 or an instance above 1,000,000; and a promise's ballot only up to that
-/// of the vote after it.
+/// How many histories are listed, worked out by hand too. At each of the four gates each byte except 1; in
+/// each of the three kinds that of a learned value, in the first also that of a floor; in a number each byte
+/// except its own, and except those that make it 0 or an instance above 1,000,000; and a promise's ballot
+/// only up to that of the vote after it.
 const COUNT: usize = 4 * 255
     + (3 + 1)
     // The round; the promise's kind, instance and ballot.
@@ -57,8 +57,8 @@ const COUNT: usize = 4 * 255
     + 2
     + 2 * 255;
 
-/// And with the record of a span. At its two gates each byte but 1; in the kind the one of a vote for a byte,
-/// and that of a learned value; each count from 2 to 64 but its own.
+/// The same for the record of a span. At its two gates each byte except 1; in the kind that of a vote for one
+/// byte, and that of a learned value; each count from 2 to 64 except its own.
 const SPANNED_COUNT: usize = 2 * 255
     // The kind, the first instance, the count, the ballot.
     + 2
@@ -67,15 +67,15 @@ const SPANNED_COUNT: usize = 2 * 255
     + (3 * 255 + 254)
     + 2;
 
-/// And with the record of a learned value. At its two gates each byte but 1; the two shorter lengths; the
-/// instance, the value.
+/// The same for the record of a learned value. At its two gates each byte except 1; the two shorter lengths;
+/// the instance, the value.
 const LEARNED_COUNT: usize = 2 * 255 + 2 + (15 + 255 + 254) + 2 * 255;
 
-/// And with the record of a floor. At its two gates each byte but 1; the kinds of a round and of a learned
-/// value; the instance.
+/// The same for the record of a floor. At its two gates each byte except 1; the kinds of a round and of a
+/// learned value; the instance.
 const FLOORED_COUNT: usize = 2 * 255 + 2 + (15 + 255 + 254);
 
-/// Whether the record tells as learned what a history has so.
+/// Whether the record has the learned value that a history has at an instance, or neither has one.
 fn is_learned_of(record: &Record<MemDisk>, history: &[Entry], instance: Instance) -> bool {
     match (
         record.learned(instance),
@@ -87,12 +87,12 @@ fn is_learned_of(record: &Record<MemDisk>, history: &[Entry], instance: Instance
     }
 }
 
-/// Whether the record tells the slot of an instance, and what was learned there.
+/// Whether the record has the slot of an instance, and what was learned there, as the history has them.
 fn is_slot_of(record: &Record<MemDisk>, history: &[Entry], instance: Instance) -> bool {
     is_slot(history, instance, record.slot(instance)) && is_learned_of(record, history, instance)
 }
 
-/// Whether the record tells the slots of so many instances, from one on, as far as there are any.
+/// Whether the record has the slots of `count` instances from `first` on, as far as there are instances.
 fn tells_span(record: &Record<MemDisk>, history: &[Entry], first: Instance, count: u8) -> bool {
     for past in 0..count {
         if let Some(instance) = Instance::new(first.number() + past as u32) {
@@ -104,7 +104,7 @@ fn tells_span(record: &Record<MemDisk>, history: &[Entry], first: Instance, coun
     true
 }
 
-/// Whether the record tells the slots of the instances that a history names, and of the one after a span.
+/// Whether the record has the slots of the instances that a history names, and of the one after a span.
 fn tells_named(record: &Record<MemDisk>, history: &[Entry]) -> bool {
     for entry in history {
         let told = match entry {
@@ -124,13 +124,13 @@ fn tells_named(record: &Record<MemDisk>, history: &[Entry]) -> bool {
     true
 }
 
-/// Whether the record tells the floor, and how far it reaches.
+/// Whether the record has the floor, and reaches as far as the history.
 fn tells_reach(record: &Record<MemDisk>, history: &[Entry]) -> bool {
     record.floor() == floor(history) && record.reach() == reach(history)
 }
 
-/// Whether the record tells the rounds, the floor, the slots of the first three instances, of which a history
-/// here names two at most, and those that it names.
+/// Whether the record has the history's rounds, floor and slots: those of the first three instances, and
+/// those that the history names. No history here names more than two of the first three.
 fn tells(rt: &impl Abort, record: &Record<MemDisk>, history: &[Entry]) -> bool {
     record.round() == last_round(history)
         && record.greatest_round() == greatest_round(history)
@@ -139,7 +139,8 @@ fn tells(rt: &impl Abort, record: &Record<MemDisk>, history: &[Entry]) -> bool {
         && tells_named(record, history)
 }
 
-/// Node 2 of three opens the bytes, which stand for this history, or refuses them where there is none.
+/// Whether node 2 of three opens the bytes, and they stand for this history; if there is none, whether it
+/// refuses them.
 fn comes_to(rt: &impl Abort, alloc: Global, bytes: &[u8], history: Option<&[Entry]>) -> bool {
     match read_bytes(rt, alloc, 2, bytes) {
         Ok(record) => is_told(rt, alloc, record, bytes, history),
@@ -153,7 +154,7 @@ fn is_refusal(rt: &impl Abort, bytes: &[u8], fault: RecordFault) -> bool {
     refusal(cluster, node, bytes) == fault
 }
 
-/// The record is of these bytes, and tells that history.
+/// Whether the bytes stand for that history, and the record has it.
 fn is_told(
     rt: &impl Abort,
     alloc: Global,
@@ -197,10 +198,11 @@ fn cut_at_each_byte(rt: &impl Abort, alloc: Global, bytes: &[u8], entries: &[Ent
     }
 }
 
-/// As a put of the last entry that was torn leaves it, a batch of the last two, one of all three, and whole.
+/// A gate's place and byte, as a torn put of the last entry leaves it, a torn batch of the last two, and one
+/// of all three; and of a whole record.
 const GATES: &[(usize, u8)] = &[(35, 0), (20, 0), (10, 0), (35, 1)];
 
-/// What stands after a closed gate isn't read, however many entries it is.
+/// Nothing after a closed gate is read, however many entries are there.
 #[test]
 fn a_record_cut_at_each_byte(rt: HostRuntime) {
     let alloc = rt.alloc();
@@ -212,13 +214,13 @@ fn a_record_cut_at_each_byte(rt: HostRuntime) {
     drop(entries);
 }
 
-/// A record with this byte at a place comes to what is listed, if that changes it.
+/// Whether a record with this byte at a place stands for what is listed, if the byte changes it.
 fn changes(rt: &impl Abort, alloc: Global, listed: &Listed<'_>, place: usize, byte: u8) -> bool {
     let bytes = with_byte(rt, alloc, listed.record(), place, byte);
     is_bytes(&bytes, listed.record()) || comes_to(rt, alloc, &bytes, listed.at(place, byte))
 }
 
-/// The record with each other byte at a place, among so many, comes to what is listed.
+/// The record with each other byte at a place stands for what is listed. It has `of` bytes.
 fn change_byte(rt: &impl Abort, alloc: Global, listed: &Listed<'_>, place: usize, of: usize) {
     for byte in 0..=255 {
         ensure(
@@ -257,13 +259,13 @@ fn is_voted_for(rt: &impl Abort, history: &[Entry], text: &str) -> bool {
     }
 }
 
-/// Whether a history has so many entries, this last round, and a vote for this value at instance 1.
+/// Whether a history has as many entries as wanted, the last round, and a vote for the value at instance 1.
 fn is_such(rt: &impl Abort, history: &[Entry], wanted: (usize, u32, &str)) -> bool {
     let (count, round, text) = wanted;
     history.len() == count && last_round(history) == round && is_voted_for(rt, history, text)
 }
 
-/// Whether that is listed, or nothing is.
+/// Whether what is wanted is listed; if nothing is wanted, whether nothing is listed.
 fn is_right(rt: &impl Abort, listed: Option<&[Entry]>, wanted: Option<(usize, u32, &str)>) -> bool {
     match listed {
         Some(history) => matches!(wanted, Some(wanted) if is_such(rt, history, wanted)),
@@ -298,7 +300,7 @@ fn the_list_has_what_is_worked_out(rt: HostRuntime) {
 
 const BITS: &[u8] = &[1, 2, 4, 8, 16, 32, 64, 128];
 
-/// A record of one batch after its sum: where its last gate stands, and how many entries it has.
+/// A record of one batch after its sum: where its last gate is, and how many entries it has.
 #[derive(Clone, Copy)]
 struct OneBatch<'a> {
     record: &'a [u8],
@@ -317,15 +319,15 @@ impl<'a> OneBatch<'a> {
     }
 }
 
-/// What becomes of the record if the byte at a place has one other bit: how many entries are read, or the
-/// refusal.
+/// What happens to the record if one bit of the byte at a place is flipped: how many entries are read, or the
+/// refusal. `byte` is the flipped byte.
 fn flipped(batch: OneBatch<'_>, place: usize, byte: u8) -> Result<usize, RecordFault> {
     match place {
         0..8 => Err(RecordFault::NotARecord),
         8 | 9 => Err(RecordFault::WrongNode),
         // the sum's gate: it is shut, which ends the list
         10 => Ok(0),
-        // the last gate, which only an open one changes
+        // the last gate: only a byte that opens it changes what is read
         _ if place == batch.last && byte != 1 => Ok(batch.count),
         _ => Err(RecordFault::Damaged),
     }
@@ -335,14 +337,14 @@ fn flipped(batch: OneBatch<'_>, place: usize, byte: u8) -> Result<usize, RecordF
 fn place_of(batch: OneBatch<'_>, place: usize, byte: u8) -> Result<Option<u64>, RecordFault> {
     match flipped(batch, place, byte) {
         Ok(_) => Ok(None),
-        // the last gate is opened, and nothing stands after it
+        // the last gate is opened, and nothing comes after it
         Err(RecordFault::Damaged) if place == batch.last => Ok(Some(batch.last as u64)),
         Err(RecordFault::Damaged) => Ok(Some(10)),
         Err(fault) => Err(fault),
     }
 }
 
-/// Node 2 opens the bytes and tells that many of these entries, or refuses them.
+/// Whether node 2 opens the bytes and finds that many of these entries, or refuses them so.
 fn opens(
     rt: &impl Abort,
     alloc: Global,
@@ -368,7 +370,7 @@ fn opens(
     }
 }
 
-/// The record with each other bit of the byte at a place becomes what it should.
+/// The record with each bit of the byte at a place flipped is read or refused as it should be.
 fn flip_each_bit(
     rt: &impl Abort,
     alloc: Global,
@@ -387,7 +389,7 @@ fn flip_each_bit(
     }
 }
 
-/// The record opens, and with each other bit it becomes what it should.
+/// The record opens. With each bit flipped it is read or refused as it should be.
 fn flip_each(rt: &impl Abort, alloc: Global, batch: OneBatch<'_>, entries: Vec<Entry>) {
     let whole = opens(rt, alloc, batch.record, Ok(batch.count), &entries);
     ensure(rt, whole, batch.record.len());
@@ -397,8 +399,8 @@ fn flip_each(rt: &impl Abort, alloc: Global, batch: OneBatch<'_>, entries: Vec<E
     drop(entries);
 }
 
-/// No bit of what a sum covers can be another without being noticed, no length and no gate among them, nor
-/// one of the sum itself. A sum's gate that is shut ends the list, as ever.
+/// Each flipped bit of what a sum covers is noticed, lengths and gates included, and so is each of the sum
+/// itself. A sum's gate that is shut ends the list, as always.
 #[test]
 fn a_record_with_a_sum_and_each_bit_flipped(rt: HostRuntime) {
     let alloc = rt.alloc();

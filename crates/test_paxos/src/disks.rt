@@ -1,8 +1,8 @@
-//! Calls of a disk, and what they came to. Their contracts are long: here each stands alone, and nothing is
-//! promised of it.
+//! Calls of a disk, and what they returned. Their contracts are long: here each call has a function of its
+//! own, which promises nothing of it.
 use site_disk::{Armed, Disk, FailOnce, MemDisk};
 
-/// The file is so long.
+/// Whether the file has this length.
 pub fn is_long(disk: &mut impl Disk, length: u64) -> bool {
     disk.len() == Ok(length)
 }
@@ -28,7 +28,7 @@ pub fn writes(disk: &mut impl Disk, at: u64, bytes: &[u8]) -> bool {
     disk.write_at(at, bytes).is_ok()
 }
 
-/// Whether the file got these bytes from a place on, to be longer.
+/// Whether the file became longer, with these bytes from a place on.
 pub fn lengthens(disk: &mut impl Disk, at: u64, bytes: &[u8]) -> bool {
     disk.lengthen(at, bytes)
 }
@@ -38,7 +38,7 @@ pub fn syncs(disk: &mut impl Disk) -> bool {
     disk.sync().is_ok()
 }
 
-/// Lets the disk crash by that choice, or work again: whether the file is so long then.
+/// Lets the disk crash by that choice, or work again. Returns whether the file has this length then.
 pub fn is_long_behind(disk: &mut MemDisk, choice: Option<u8>, length: u64) -> bool {
     match choice {
         Some(choice) => disk.crash(choice),

@@ -17,7 +17,7 @@ const PUTS: &[(u32, u32)] = &[(0, 0), (1, 0), (2, 0), (3, 1)];
 /// What a crash chooses after an opening.
 const CHOICES: &[u8] = &[0, 1, 7];
 
-/// A put whose call fails so, and one that is Stopped.
+/// A put with a call that fails, and then one that returns `Stopped`.
 fn fail_put(rt: &impl Abort, record: &mut Record<FailOnce<MemDisk>>, calls: u32) {
     arm(record, calls);
     ends(rt, put_round(record, 1), Err(RecordFault::Device));
@@ -34,7 +34,7 @@ fn failed_put(rt: &impl Abort, alloc: Global, calls: u32) -> FailOnce<MemDisk> {
     disk
 }
 
-/// The opening after such a put finds the round, and the next one, after a crash.
+/// The opening after such a put finds the round, and so does the next one, after a crash.
 fn settles(rt: &impl Abort, alloc: Global, calls: u32, choice: u8, round: u32) {
     let record = opened(rt, alloc, failed_put(rt, alloc, calls));
     same(rt, (calls, record.round()), (calls, round));
@@ -43,7 +43,7 @@ fn settles(rt: &impl Abort, alloc: Global, calls: u32, choice: u8, round: u32) {
     same(rt, (calls, choice, found), (calls, choice, round));
 }
 
-/// Whatever a crash chooses after an opening, it keeps what that found.
+/// Whatever a crash chooses after an opening, what the opening found is kept.
 #[test]
 fn an_opening_settles_the_entry_in_flight(rt: HostRuntime) {
     for &(calls, round) in PUTS {
@@ -53,7 +53,7 @@ fn an_opening_settles_the_entry_in_flight(rt: HostRuntime) {
     }
 }
 
-/// A call that failed did nothing, and the one after it is as ever. A call that the disk under it fails
+/// A call that failed did nothing, and the one after it works as always. A call that fails at the disk within
 /// counts too.
 fn check_calls(rt: &impl Abort, disk: &mut FailOnce<MemDisk>) {
     disk.arm(1);
@@ -74,7 +74,7 @@ fn check_further_calls(rt: &impl Abort, disk: &mut FailOnce<MemDisk>) {
     same(rt, disk.failures(), 4);
 }
 
-/// One call failed of the disk within, which has what it had.
+/// One call of the disk within failed. That disk has what it had.
 fn check_within(rt: &impl Abort, mut disk: MemDisk) {
     same(rt, disk.failures(), 1);
     disk.crash(0);
@@ -90,7 +90,7 @@ fn one_armed_call_fails(rt: HostRuntime) {
     check_within(&rt, disk.into_inner());
 }
 
-/// The disk of a promise's record, of which so many calls pass before one fails.
+/// The disk of a promise's record, of which `calls` calls pass before one fails.
 fn armed(rt: &impl Abort, alloc: Global, calls: u32) -> FailOnce<MemDisk> {
     let mut disk = FailOnce::new(disk_of(rt, alloc, &ONE_PROMISE));
     disk.arm(calls);
@@ -115,7 +115,7 @@ fn opens(rt: &impl Abort, alloc: Global, disk: FailOnce<MemDisk>) {
     drop(record);
 }
 
-/// Each call of an opening fails in turn, and gives the disk back: it opens then.
+/// Each call of an opening fails in turn. The opening gives the disk back, and the next one succeeds.
 #[test]
 fn an_opening_that_fails_gives_the_disk_back(rt: HostRuntime) {
     let alloc = rt.alloc();

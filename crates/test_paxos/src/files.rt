@@ -22,7 +22,7 @@ const LONG_FILE: &str = "paxos_suite_long";
 /// An empty record of node 2 of three, which has grown by ten bytes.
 const LONG: [u8; 21] = *b"SITEREC1\x02\x03\x00\x00\x00\x00\x00\x00\x00\x00\x00\x00\x00";
 
-/// What the system says of a write to a file that is open for reading.
+/// The system's error for a write to a file that is open for reading.
 const EBADF: i32 = 9;
 
 /// How many votes the batch has.
@@ -39,7 +39,7 @@ fn has_bytes(rt: &impl Abort, file: &File, wanted: [u8; 21]) {
     same(rt, bytes, wanted);
 }
 
-/// So many calls failed, and the last of them came to that.
+/// This many calls failed, and the last one with an error of this kind.
 fn has_failed(rt: &impl Abort, disk: &FileDisk, count: u64, kind: Option<ErrorKind>) {
     let last = match disk.last_failure() {
         Some(error) => Some(error.kind()),
@@ -49,7 +49,7 @@ fn has_failed(rt: &impl Abort, disk: &FileDisk, count: u64, kind: Option<ErrorKi
     ensure(rt, last == kind, count);
 }
 
-/// A read past the end fails, and no call did before; what the system said of it stays when calls succeed
+/// A read past the end fails, and no call did before. The disk keeps the system's error when calls succeed
 /// again.
 fn check_disk(rt: &impl Abort, mut disk: FileDisk) {
     has_failed(rt, &disk, 0, None);
@@ -59,8 +59,8 @@ fn check_disk(rt: &impl Abort, mut disk: FileDisk) {
     drop(disk);
 }
 
-/// A disk whose file is open for reading alone refuses each write, and keeps why. It gets no longer, which is
-/// no failure.
+/// A disk whose file is open only for reading refuses each write, and keeps the error. The file does not
+/// become longer, which is no failure.
 fn check_read_only(rt: &impl Abort, file: File) {
     let mut disk = FileDisk::new(file);
     ensure(rt, !lengthens(&mut disk, 21, b"x"), 21);
@@ -93,7 +93,7 @@ fn find_round(rt: &impl Abort, alloc: Global, file: File) {
     check_disk(rt, record.close());
 }
 
-/// Read and written, and made where it is not there.
+/// Opens a file to read and write it, and makes it if it does not exist.
 fn made_anew(rt: &(impl Files<File = File> + Abort), path: &str) -> File {
     let mut options = OpenOptions::new();
     options.read(true).write(true).create(true);
@@ -113,7 +113,7 @@ fn sync_folder(rt: &(impl Files<File = File> + Abort)) {
     folder.sync_all().expect(rt, "a sync");
 }
 
-/// Without what an earlier run left there.
+/// Makes the folder, without what an earlier run left there.
 fn make_folder(rt: &(impl Files + Alloc + Abort)) {
     let _ = fs::remove_dir_all(rt, FOLDER);
     fs::create_dir(rt, FOLDER).expect(rt, "a folder");
@@ -138,7 +138,7 @@ fn a_real_file_keeps_the_record(rt: HostRuntime) {
     fs::remove_dir_all(&rt, FOLDER).expect(&rt, "no folder");
 }
 
-/// The record takes a vote at each of so many instances, all in one batch.
+/// The record takes a vote at each of `VOTES` instances, all in one batch.
 fn put_votes(rt: &impl Abort, alloc: Global, record: &mut Record<FileDisk>) {
     ends(rt, record.begin(), Ok(()));
     for at in 1..=VOTES {

@@ -1,4 +1,4 @@
-//! Records that take the place of a lost one: how they are made, what they tell, what is damage.
+//! Records that take the place of a lost one: how they are made, what they report, what is damage.
 use crate::comparing::{ensure, same};
 use crate::disks::{holds, is_long_behind};
 use crate::listed::{FLOORED, SUMMED_FLOOR};
@@ -19,7 +19,7 @@ fn floored(rt: &impl Abort, alloc: Global) -> MemDisk {
     disk
 }
 
-/// The disk was made by seven calls, and is no file for another record.
+/// The record was made by seven calls, and no other record is made in its file.
 fn is_made(rt: &impl Abort, disk: &mut MemDisk) {
     ensure(rt, are_calls(disk.calls(), b"LWSWSWS"), 7);
     ensure(rt, holds(disk, &SUMMED_FLOOR), SUMMED_FLOOR.len());
@@ -78,7 +78,7 @@ const ABOVE_FOUND: &[Step] = &[
     Step::Learned(70, Some("x")),
 ];
 
-/// The record of a disk, after these steps, is found so at the next opening.
+/// The record of a disk takes these steps. The next opening finds `found`.
 fn play(rt: &impl Abort, alloc: Global, disk: MemDisk, steps: &[Step], found: &[Step]) {
     let mut record = opened(rt, alloc, disk);
     take(rt, alloc, &mut record, steps);
@@ -113,7 +113,7 @@ fn a_record_without_a_floor(rt: HostRuntime) {
     play(&rt, rt.alloc(), disk, WITHOUT, WITHOUT_FOUND);
 }
 
-/// A batch that isn't sealed reaches further in memory alone.
+/// A batch that isn't sealed reaches further only in memory.
 const UNSEALED: &[Step] = &[Step::Begin, Step::Vote(7, 1, "v"), Step::Reach(7)];
 
 #[test]
@@ -168,8 +168,8 @@ fn a_floor_is_the_first_entry_and_an_instance(rt: HostRuntime) {
     }
 }
 
-/// How many calls pass, what the crash chooses, or none, and then the file's length, and whether it opens,
-/// with the floor.
+/// How many calls pass, what the crash chooses, if there is one, and then the file's length, and whether it
+/// opens, with the floor.
 const INTERRUPTED: &[(u32, Option<u8>, u64, bool)] = &[
     (0, None, 0, false),
     (1, Some(1), 0, false),
@@ -191,7 +191,7 @@ const INTERRUPTED: &[(u32, Option<u8>, u64, bool)] = &[
     (7, Some(7), 39, true),
 ];
 
-/// A new record whose disk fails after so many calls, if it makes so many.
+/// A new record whose disk fails after `calls` calls, if it makes more than that.
 fn interrupted(rt: &impl Abort, alloc: Global, calls: u32) -> MemDisk {
     let mut disk = MemDisk::new(alloc);
     disk.arm(calls);
@@ -224,8 +224,8 @@ fn each_call_of_a_format_fails(rt: HostRuntime) {
     }
 }
 
-/// Whatever a crash chooses after a format that a call of the disk ended, it leaves no record, or one with
-/// the floor.
+/// Whatever a crash chooses after a format that a failed call of the disk ended, it leaves no record, or one
+/// with the floor.
 fn is_none_or_floor(rt: &impl Abort, alloc: Global, calls: u32, choice: u8) {
     let mut disk = interrupted(rt, alloc, calls);
     disk.crash(choice);

@@ -1,4 +1,5 @@
-//! A record's file grows ahead: what it says stands, whichever call fails and whatever a crash chooses.
+//! A record's file grows ahead. What the record has is kept, whichever call fails and whatever a crash
+//! chooses.
 use crate::comparing::{ensure, same};
 use crate::disks::{crashed_within, holds, is_long};
 use crate::samples::ballot;
@@ -20,7 +21,7 @@ const GROWN: [u8; 41] =
 const GROWN_AND_USED: [u8; 53] =
     *b"SITEREC1\x02\x03\x01\x00\x00\x00\x0a\x02\x00\x00\x00\x01\x00\x00\x00\x01\x01\x01\x00\x00\x00\x05\x01\x00\x00\x00\x02\x00\x00\x00\x00\x00\x00\x00\x00\x00\x00\x00\x00\x00\x00\x00\x00\x00\x00";
 
-/// How many calls of a growth pass before one fails, what the growth comes to, how many failures the disk
+/// How many calls of a growth pass before one fails, what the growth returns, how many failures the disk
 /// counts, and how long the file is.
 const GROWTHS: &[(u32, Result<bool, RecordFault>, u64, u64)] = &[
     (0, Err(RecordFault::Device), 1, 26),
@@ -50,7 +51,7 @@ fn grown(rt: &impl Abort, alloc: Global) -> Record<MemDisk> {
     record
 }
 
-/// The disk after a growth of which so many calls passed before one failed.
+/// The disk after a growth, of which as many calls passed as the row says before one failed.
 fn grown_armed(
     rt: &impl Abort,
     alloc: Global,
@@ -68,7 +69,7 @@ fn grown_armed(
     disk
 }
 
-/// What is on the disk after such a growth and a crash opens as ever, and goes on.
+/// What is on the disk after such a growth and a crash opens as always, and takes more entries.
 fn survives(
     rt: &impl Abort,
     alloc: Global,
@@ -83,7 +84,7 @@ fn survives(
     same(rt, found_round(rt, alloc, record.close()), 2);
 }
 
-/// Want of room is no fault, and leaves a record that runs. A length or a sync that fails stops the record.
+/// A lack of room is no fault, and leaves a record that runs. A length or a sync that fails stops the record.
 /// Whatever a crash chooses then, the record is as it was.
 #[test]
 fn each_call_of_a_growth_fails_in_turn(rt: HostRuntime) {
@@ -94,7 +95,7 @@ fn each_call_of_a_growth_fails_in_turn(rt: HostRuntime) {
     }
 }
 
-/// It gets zeros, by one write and one sync, an opening's sync before them.
+/// The file gets zeros, by one write and one sync, after an opening's sync.
 #[test]
 fn a_file_grows_by_zeros(rt: HostRuntime) {
     let mut disk = grown(&rt, rt.alloc()).close();
@@ -103,7 +104,7 @@ fn a_file_grows_by_zeros(rt: HostRuntime) {
     drop(disk);
 }
 
-/// Where there is room already nothing is written or synced.
+/// If there is room already, nothing is written or synced.
 #[test]
 fn room_is_made_once(rt: HostRuntime) {
     let mut record = grown(&rt, rt.alloc());
@@ -124,7 +125,7 @@ fn entries_take_the_place_of_zeros(rt: HostRuntime) {
     drop(disk);
 }
 
-/// While a batch is open the file does not grow, and the batch is sealed as ever.
+/// While a batch is open the file does not grow, and the batch is sealed as always.
 #[test]
 fn no_file_grows_within_a_batch(rt: HostRuntime) {
     let alloc = rt.alloc();

@@ -25,7 +25,7 @@ const CRASHES: &[(u32, u8, u64, bool)] = &[
     (4, 7, 23, true),
 ];
 
-/// What steps found, an opening finds too.
+/// Steps of an empty record, and what an opening finds after them.
 fn play(rt: &impl Abort, alloc: Global, before: &[Step], behind: &[Step]) {
     let mut record = opened(rt, alloc, disk_behind(rt, alloc, before));
     take(rt, alloc, &mut record, behind);
@@ -34,7 +34,7 @@ fn play(rt: &impl Abort, alloc: Global, before: &[Step], behind: &[Step]) {
 
 const ONE: &[Step] = &[Step::Learn(1, "ab"), Step::Learned(1, Some("ab"))];
 
-/// The disk has these bytes, after so many calls.
+/// The disk has the bytes of `LEARNED`, after eight calls.
 fn is_kept(rt: &impl Abort, disk: &mut MemDisk) {
     same(rt, disk.calls().len(), 8);
     ensure(rt, holds(disk, &LEARNED), LEARNED.len());
@@ -47,7 +47,8 @@ fn a_learned_value_is_one_entry(rt: HostRuntime) {
     play(&rt, rt.alloc(), ONE, &[Step::Learned(1, Some("ab"))]);
 }
 
-/// It is learned once, raises nothing, is no vote; one for another value comes later, and one for the same.
+/// A value is learned once, raises nothing, and is no vote. A vote for another value comes later, and one for
+/// the same value.
 const BESIDE_VOTES: &[Step] = &[
     Step::Learn(1, "v"),
     Step::NoLearn(1, "v"),
@@ -109,7 +110,7 @@ fn a_batch_has_a_learned_value(rt: HostRuntime) {
     play(&rt, rt.alloc(), &IN_A_BATCH[..5], &[Step::Learned(1, None)]);
 }
 
-/// A put of the value whose disk fails after so many calls, if it makes so many.
+/// A put of the value whose disk fails after `calls` calls, if it makes more than that.
 fn put_armed(rt: &impl Abort, alloc: Global, record: &mut Record<MemDisk>, calls: u32) {
     arm(record, calls);
     let put = put_learned(rt, alloc, record, instance(rt, 1), b"ab");
@@ -121,7 +122,7 @@ fn put_armed(rt: &impl Abort, alloc: Global, record: &mut Record<MemDisk>, calls
     }
 }
 
-/// The file is so long after the crash, and the next opening finds the value or not.
+/// After the crash the file has that length, and the next opening finds the value or not.
 fn crash(rt: &impl Abort, alloc: Global, row: (u32, u8, u64, bool)) {
     let (calls, choice, length, kept) = row;
     let mut record = empty(rt, alloc);

@@ -1,7 +1,7 @@
-//! Rows of the protocol: messages as datagrams, the verdicts of an acceptor, attempts, votes told and chosen
+//! Rows of the protocol: messages as datagrams, the verdicts of an acceptor, attempts, told votes and chosen
 //! values. Records that keep them: files byte by byte, cut and damaged; crashes after each call, calls that
-//! fail, batches, a real file. What damaged bytes come to is computed: the functions that decide it
-//! (`test_record`) are proved to be the definition of a record. Each growth refused.
+//! fail, batches, a real file. What damaged bytes stand for is computed: the functions that decide it
+//! (`test_record`) are proved to be the definition of a record. Each allocation fails in turn.
 #![tactic(auto)]
 
 #[cfg(test)]

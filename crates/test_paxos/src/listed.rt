@@ -168,7 +168,7 @@ impl<'a> Listed<'a> {
         stands_plainly_for(self.alloc, self.cluster, self.node, &file, entries).expect(rt, "memory")
     }
 
-    /// Lists these entries where it does.
+    /// Lists these entries if it does.
     fn list_at(&mut self, rt: &impl Abort, place: usize, byte: u8, entries: &[Entry]) {
         if self.stands_with(rt, place, byte, entries) {
             let history = copies(rt, self.alloc, entries);
@@ -177,8 +177,8 @@ impl<'a> Listed<'a> {
         }
     }
 
-    /// Lists these entries, which are spelled so, at the first byte by which that differs from the record, or
-    /// else at each byte in the place of the gate after it.
+    /// Lists these entries, which are spelled as `bytes`, at the first byte that differs from the record. If
+    /// none differs, lists them at each byte in the place of the gate after them.
     fn list_spelled(&mut self, rt: &impl Abort, bytes: &[u8], entries: &[Entry]) {
         match first_other(self.record, bytes) {
             Some((place, byte)) => self.list_at(rt, place, byte, entries),

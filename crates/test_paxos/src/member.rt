@@ -1,4 +1,4 @@
-//! A proposer of a cluster, lent to the rows, and what they do with it.
+//! A proposer of a cluster, and what the rows do with it.
 ghost use Rattle.std.specs.Prelude.{◌≡◌};
 
 use crate::comparing::{ensure, same};
@@ -28,25 +28,25 @@ pub(crate) enum Sent {
 /// The round and the node of a ballot, and a value.
 type Told = (u32, u8, &'static str);
 
-/// What is done with a proposer, and what it answers. A ballot is a round and a node.
+/// What is done with a proposer, and what it returns. A ballot is a round and a node.
 #[derive(Clone, Copy)]
 pub(crate) enum Step {
     /// Begins an attempt at an instance, at a ballot, for a value.
     Start(u32, u32, u8, &'static str),
     /// Begins three attempts, from an instance on, at a ballot, for a byte each.
     Span(u32, u32, u8, &'static [u8; 3]),
-    /// A node promises instance 7 at a ballot, and tells of no vote there. This value is proposed then.
+    /// A node promises instance 7 at a ballot, and reports no vote there. This value is proposed then.
     Promise(u8, u32, u8, Option<&'static str>),
-    /// The same, and it tells of a vote.
+    /// The same, and the node reports a vote.
     Tells(u8, u32, u8, Told, Option<&'static str>),
-    /// What is sent again of an instance.
+    /// What is sent again for an instance.
     Sends(u32, Sent),
     /// What the attempt at an instance is for.
     Own(u32, Option<&'static str>),
     Abandon(u32),
     /// Makes room at an instance.
     Room(u32),
-    /// So many attempts are open.
+    /// How many attempts are open.
     Open(usize),
 }
 
@@ -81,12 +81,12 @@ pub(crate) fn three_values(alloc: Global, bytes: &[u8; 3]) -> Result<Vec<Value>,
     Ok(values)
 }
 
-/// Whether the proposal is this one, of instance 7 at a ballot.
+/// Whether the proposal is this one, for instance 7 at a ballot.
 fn is_proposal(made: &Proposal, at: Ballot, text: &str) -> bool {
     made.instance.number() == 7 && made.ballot == at && is_text(&made.value, text)
 }
 
-/// Whether this is proposed, of instance 7 at a ballot, or nothing is.
+/// Whether this value is proposed, for instance 7 at a ballot; without a value, whether nothing is.
 pub(crate) fn is_made(made: Option<Proposal>, at: Ballot, value: Option<&str>) -> bool {
     let is_made = match &made {
         Some(made) => matches!(value, Some(text) if is_proposal(made, at, text)),
@@ -119,7 +119,7 @@ pub(crate) fn is_sent(message: Option<Message>, sent: Sent) -> bool {
 }
 
 impl Member {
-    /// The node of that number among so many.
+    /// The node of that number in a cluster of `size` nodes.
     pub(crate) fn new(rt: &impl Abort, alloc: Global, size: u8, number: u8) -> Member {
         let cluster = cluster(rt, size);
         let me = cluster.node(number).expect(rt, "a node");
@@ -228,7 +228,7 @@ fn tell(
     promise(rt, member, from, at, Some(&prior), made);
 }
 
-/// Whether that is sent again of an instance.
+/// Whether that is sent again for an instance.
 pub(crate) fn is_resent(rt: &impl Abort, member: &Member, at: u32, sent: Sent) -> bool {
     let message = member.resend(instance(rt, at)).expect(rt, "memory");
     is_sent(message, sent)
@@ -255,7 +255,7 @@ fn has_open(rt: &impl Abort, member: &Member, count: usize) {
     same(rt, member.proposer.attempts(), count);
 }
 
-/// What a step asks of the proposer, where it asks.
+/// Checks what a step asks of the proposer, if it asks something.
 fn look(rt: &impl Abort, member: &Member, step: Step) {
     match step {
         Step::Sends(at, sent) => sends(rt, member, at, sent),

@@ -45,7 +45,7 @@ const MALFORMED: &[&str] = &[
     "020102000000010000000102",
     "010002000000010000000102",
     "010802000000010000000102",
-    // Senders, a ballot's node, a prior's node and a promise's node that are none of the three.
+    // Senders, a ballot's node, a prior's node and a promise's node that are not among the three.
     "01060400000002",
     "010104000000010000000102",
     "010100000000010000000102",
@@ -64,7 +64,7 @@ const MALFORMED: &[&str] = &[
     "01020200000001000000010302",
     // A prior after the mark of none.
     "01020200000001000000010300000000010100000000",
-    // A length that says more than stands, and one that says less.
+    // A length of more bytes than there are, and one of fewer.
     "0104030000000100000002010000000207",
     "0104030000000100000002010000000007",
     "0103010000000100000001018000000107",
@@ -75,7 +75,7 @@ fn decoded(rt: &impl Abort, alloc: Global, bytes: &[u8]) -> Result<Message, Wire
     decode(alloc, bytes, cluster(rt, 3))
 }
 
-/// Why the bytes are no message, if they are none.
+/// Why the bytes are no message, if they are not.
 fn fault_of(rt: &impl Abort, alloc: Global, bytes: &[u8]) -> Option<WireFault> {
     match decoded(rt, alloc, bytes) {
         Ok(message) => {
@@ -99,7 +99,7 @@ pub(crate) fn is_written(message: &Message, out: &mut Vec<u8>) -> bool {
     message.fits() && encode(message, out).is_ok()
 }
 
-/// Whether a message is written as these bytes, after those that stand before it.
+/// Whether a message is written as these bytes, after those that were there before.
 fn is_spelled(rt: &impl Abort, alloc: Global, message: Message, bytes: &[u8]) -> bool {
     let mut out = b"before".to_vec(alloc).expect(rt, "memory");
     let is_written = is_written(&message, &mut out);
@@ -148,7 +148,7 @@ fn beginnings_and_one_byte_more(rt: HostRuntime) {
     }
 }
 
-/// The bytes that are spelled so, and so many further ones.
+/// The bytes that this text spells, and `more` further ones.
 fn bytes_and(rt: &impl Abort, alloc: Global, text: &str, more: usize) -> Vec<u8> {
     let mut bytes = bytes_of(rt, alloc, text);
     let len = bytes.len().saturating_add(more);
@@ -156,7 +156,7 @@ fn bytes_and(rt: &impl Abort, alloc: Global, text: &str, more: usize) -> Vec<u8>
     bytes
 }
 
-/// These bytes, and so many further ones after them, are malformed.
+/// The bytes that this text spells, with `more` further ones after them, are malformed.
 fn is_refused(rt: &impl Abort, alloc: Global, text: &str, more: usize) {
     let bytes = bytes_and(rt, alloc, text, more);
     ensure(rt, is_malformed(rt, alloc, &bytes), text);
@@ -252,7 +252,7 @@ fn check_prepares(rt: &impl Abort, slot: &Slot) {
     prepare(rt, slot, ballot(rt, 1, 9), PrepareVerdict::Nack(own));
 }
 
-/// Of a slot that voted at the ballot that it promised.
+/// The verdicts of a slot that voted at the ballot that it promised.
 fn check_voted(rt: &impl Abort, slot: &Slot) {
     let own = ballot(rt, 2, 1);
     prepare(rt, slot, own, PrepareVerdict::Silent);
@@ -286,7 +286,7 @@ fn verdicts_of_an_acceptor(rt: HostRuntime) {
     check_empty(&rt);
 }
 
-/// The cluster has so many nodes, numbered from one on, and that majority.
+/// The cluster has `size` nodes, numbered from 1 on, and that quorum.
 fn has_nodes(rt: &impl Abort, size: u8, quorum: u8) {
     let cluster = cluster(rt, size);
     let is_right = cluster.size() == size
@@ -312,7 +312,7 @@ fn is_below(rt: &impl Abort, round: u32, number: u8, above: u8) {
     ensure(rt, below < ballot(rt, 2, above), below);
 }
 
-/// So many nodes, and the majority of them.
+/// How many nodes there are, and how many make a majority.
 const QUORUMS: &[(u8, u8)] = &[
     (1, 1),
     (2, 2),

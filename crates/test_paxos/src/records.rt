@@ -26,7 +26,7 @@ fn letter_of(call: &Call) -> u8 {
 const SHUT: [u8; 26] =
     *b"SITEREC1\x02\x03\x07\x00\x00\x00\x0a\x02\x00\x00\x00\x01\x00\x00\x00\x01\x01\x00";
 
-/// So many bytes of the promise's record, the node that opens them, and why it is refused.
+/// How many bytes of the promise's record there are, the node that opens them, and why it is refused.
 const OPENINGS: &[(usize, u8, Option<RecordFault>)] = &[
     (26, 2, None),
     (25, 2, Some(RecordFault::Damaged)),
@@ -99,7 +99,7 @@ fn put_seventy(rt: &impl Abort, alloc: Global, record: &mut Record<MemDisk>) {
     }
 }
 
-/// Whether the ballot is promised, and voted at for that value.
+/// Whether the ballot is promised, and the slot has a vote at it for that value.
 fn is_voted(slot: &Slot, ballot: Ballot, value: &[u8]) -> bool {
     match &slot.vote {
         Some(vote) => {

@@ -1,9 +1,9 @@
-//! Each call with one growth refused: it answers as ever, or memory was refused, nothing has changed, and the
-//! next try answers as ever.
+//! Each call with one allocation that fails. It returns what it always returns, or that an allocation failed.
+//! Then nothing has changed, and the next try returns what it always returns.
 //!
-//! All is tried twice, since a second program, `tools/gate/refuse-growths`, runs each test once for each
-//! growth of its memory and refuses that one: the first try meets it, the second does not. Alone a test is
-//! refused nothing.
+//! Each test tries everything twice. A second program, `tools/gate/refuse-growths`, runs each test once for
+//! each of its allocations, and makes that one fail: the first try meets it, the second does not. Without
+//! that program no allocation fails.
 use crate::comparing::{ensure, same};
 use crate::member::{Member, Sent, is_made, is_resent, is_sent, three_values};
 use crate::messages::is_written;
@@ -36,7 +36,7 @@ fn decoded(rt: &impl Abort, alloc: Global) -> Message {
     }
 }
 
-/// A message is spelled so.
+/// The message is spelled as `PROMISE`.
 fn encodes(rt: &impl Abort, alloc: Global, message: Message) {
     let mut out = Vec::new(alloc);
     if !is_written(&message, &mut out) {
@@ -59,7 +59,7 @@ fn messages(rt: HostRuntime) {
     encodes(&rt, alloc, copy_of(&rt, decoded(&rt, alloc)));
 }
 
-/// A call whose growth was refused changes nothing, so the next try answers as ever.
+/// A call whose allocation failed changes nothing, so the next try returns what it always returns.
 fn promised(
     rt: &impl Abort,
     member: &mut Member,
@@ -179,7 +179,7 @@ fn votes(rt: HostRuntime) {
     tell_two(&rt, &mut Learner::new(rt.alloc(), cluster(&rt, 3)), value);
 }
 
-/// The value that was handed back since memory was refused.
+/// The value that was handed back because an allocation failed.
 fn handed_back(rt: &impl Abort, fault: LearnFault) -> Value {
     match fault {
         LearnFault::Conflict(_) => panic!(rt; "a conflict"),
@@ -232,7 +232,7 @@ fn format(alloc: Global, cluster: Cluster, node: NodeId) -> Option<MemDisk> {
     }
 }
 
-/// An empty record's disk. A growth that was refused leaves a beginning of it behind, so it is made on
+/// An empty record's disk. If an allocation failed, a beginning of the record is left, so it is made on
 /// another disk then.
 fn formatted(rt: &impl Abort, alloc: Global) -> MemDisk {
     let (cluster, node) = one_of_three(rt, 2);
@@ -242,7 +242,7 @@ fn formatted(rt: &impl Abort, alloc: Global) -> MemDisk {
     }
 }
 
-/// What a refused growth left is no record, or has the floor.
+/// What is left after an allocation failed is no record, or has the floor.
 fn is_none_or_floor(rt: &impl Abort, alloc: Global, disk: MemDisk) {
     let found = found_floor(rt, alloc, disk);
     ensure(
@@ -252,7 +252,7 @@ fn is_none_or_floor(rt: &impl Abort, alloc: Global, disk: MemDisk) {
     );
 }
 
-/// The disk of a record above instance 65, another one where a growth was refused.
+/// The disk of a record above instance 65; another disk if an allocation failed.
 fn floored(rt: &impl Abort, alloc: Global) -> MemDisk {
     let mut disk = MemDisk::new(alloc);
     if format_above(rt, &mut disk).is_ok() {
@@ -276,14 +276,14 @@ fn opened(rt: &impl Abort, alloc: Global, disk: MemDisk) -> Record<MemDisk> {
 /// Instances at which the batch promises.
 const RAISED: &[u32] = &[1, 5, 7];
 
-/// This is promised there.
+/// This is promised at each instance of `RAISED`.
 fn promises(rt: &impl Abort, record: &Record<MemDisk>, promised: Option<Ballot>) {
     for &at in RAISED {
         ensure(rt, record.slot(instance(rt, at)).promised == promised, at);
     }
 }
 
-/// The record tells all of the batch, or nothing.
+/// The record has all of the batch, or nothing of it. Returns whether it has all.
 fn tells(rt: &impl Abort, record: &Record<MemDisk>) -> bool {
     let all = record.round() == 1;
     if all {
@@ -296,7 +296,7 @@ fn tells(rt: &impl Abort, record: &Record<MemDisk>) -> bool {
     all
 }
 
-/// The step is taken, at the next try where memory was refused.
+/// The step is taken, at the next try if an allocation failed.
 fn take(rt: &impl Abort, alloc: Global, record: &mut Record<MemDisk>, step: Step) {
     if let Err(fault) = act(rt, alloc, record, step) {
         same(rt, fault, RecordFault::OutOfMemory);
@@ -312,14 +312,15 @@ fn fill(rt: &impl Abort, alloc: Global, record: &mut Record<MemDisk>) {
     same(rt, tells(rt, record), true);
 }
 
-/// Where the disk in memory found no memory its call failed.
+/// If an allocation of the disk in memory failed, its call failed.
 fn seal(rt: &impl Abort, record: &mut Record<MemDisk>) {
     if let Err(fault) = record.seal() {
         same(rt, fault, RecordFault::Device);
     }
 }
 
-/// The same on a record that a failed seal left, opened again: all of the batch stands or none of it.
+/// The same on a record that a failed seal left, after it was opened again: it has all of the batch or none
+/// of it.
 fn fill_again(rt: &impl Abort, alloc: Global, record: &mut Record<MemDisk>) {
     if !tells(rt, record) {
         fill(rt, alloc, record);
@@ -327,7 +328,7 @@ fn fill_again(rt: &impl Abort, alloc: Global, record: &mut Record<MemDisk>) {
     }
 }
 
-/// The record tells all of the batch.
+/// The record has all of the batch.
 fn finds(rt: &impl Abort, record: Record<MemDisk>) {
     same(rt, tells(rt, &record), true);
     drop(record);

@@ -25,7 +25,7 @@ pub(crate) fn is_ballot(ballot: Ballot, round: u32, number: u8) -> bool {
     ballot.round() == round && ballot.node().number() == number
 }
 
-/// A growth that was refused is tried once more.
+/// An allocation that failed is tried once more.
 fn copied(alloc: Global, bytes: &[u8]) -> Result<Value, AllocError> {
     match Value::copied_from(alloc, bytes) {
         Ok(value) => Ok(value),

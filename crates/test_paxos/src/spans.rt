@@ -31,7 +31,7 @@ const CRASHES: &[(u32, u8, u64, bool)] = &[
     (4, 7, 27, true),
 ];
 
-/// Steps of an empty record, and further ones where it was closed and opened again.
+/// Steps of an empty record, and further ones after it was closed and opened again.
 fn play(rt: &impl Abort, alloc: Global, before: &[Step], behind: &[Step]) {
     let mut record = opened(rt, alloc, disk_behind(rt, alloc, before));
     take(rt, alloc, &mut record, behind);
@@ -45,7 +45,7 @@ fn finds(rt: &impl Abort, alloc: Global, disk: MemDisk, rounds: &[u32]) {
     drop(record);
 }
 
-/// The disk has these bytes, after so many calls.
+/// The disk has the bytes of `SPANNED`, after eight calls.
 fn is_spanned(rt: &impl Abort, disk: &mut MemDisk) {
     same(rt, disk.calls().len(), 8);
     ensure(rt, holds(disk, &SPANNED), SPANNED.len());
@@ -109,7 +109,7 @@ fn spans_of_sixty_four_up_to_the_last_instance(rt: HostRuntime) {
     play(&rt, rt.alloc(), LAST_SPANS, LAST_PROMISES);
 }
 
-/// A put of the span whose disk fails after so many calls, if it makes so many.
+/// A put of the span whose disk fails after `calls` calls, if it makes more than that.
 fn put_armed(rt: &impl Abort, record: &mut Record<MemDisk>, calls: u32) {
     arm(record, calls);
     let put = put_span(record, instance(rt, 5), 3, ballot(rt, 1, 1));
@@ -121,7 +121,7 @@ fn put_armed(rt: &impl Abort, record: &mut Record<MemDisk>, calls: u32) {
     }
 }
 
-/// The file is so long after the crash, and the next opening keeps the promise or not.
+/// After the crash the file has that length, and the next opening finds the promise or not.
 fn crash(rt: &impl Abort, alloc: Global, row: (u32, u8, u64, bool)) {
     let (calls, choice, length, kept) = row;
     let mut record = empty(rt, alloc);

@@ -1,4 +1,4 @@
-//! Steps of a record: what is put, and what it tells then.
+//! Steps of a record: what is put, and what the record reports then.
 use crate::comparing::{ensure, same};
 use crate::samples::{ballot, instance, is_text};
 use crate::stored::{empty, put_learned, put_promise, put_round, put_span, put_vote_for};
@@ -17,7 +17,7 @@ pub(crate) enum Step {
     Round(u32),
     /// A promise at an instance.
     Promise(u32, u32),
-    /// The promise of a span from an instance on, of so many.
+    /// The promise of a span: its first instance, how many instances it has, and the round.
     Span(u32, u8, u32),
     /// The same is not to be put.
     NoSpan(u32, u8, u32),
@@ -27,7 +27,7 @@ pub(crate) enum Step {
     Learn(u32, &'static str),
     /// The same is not to be put.
     NoLearn(u32, &'static str),
-    /// The rounds promised from an instance on, 0 where none is.
+    /// The rounds promised from an instance on, 0 if none is.
     Promised(u32, &'static [u32]),
     /// What is voted for at an instance.
     Voted(u32, &'static str),
@@ -39,7 +39,7 @@ pub(crate) enum Step {
     Reach(u32),
 }
 
-/// What a step came to, where it puts or ends something.
+/// What a step returns, if it puts or ends something.
 pub(crate) fn act<D: Disk>(
     rt: &impl Abort,
     alloc: Global,
@@ -104,7 +104,7 @@ fn is_learned(learned: Option<&Value>, text: Option<&str>) -> bool {
     }
 }
 
-/// The record tells what a step says, where it says something.
+/// The record reports what a step says, if it says something.
 fn look<D: Disk>(rt: &impl Abort, record: &Record<D>, step: Step) {
     match step {
         Step::Promised(first, rounds) => promises(rt, record, first, rounds),

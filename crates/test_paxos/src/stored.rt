@@ -45,7 +45,7 @@ pub fn formatted(rt: &impl Abort, alloc: Global) -> MemDisk {
     disk
 }
 
-/// The record on a disk, or why that is refused to a node of three.
+/// The record on a disk, or why a node of three refuses it.
 fn read<D: Disk + Drop>(
     rt: &impl Abort,
     alloc: Global,
@@ -94,7 +94,7 @@ pub fn format_above<D: Disk>(rt: &impl Abort, disk: &mut D) -> Result<(), Record
     Record::format_above(cluster, node, instance(rt, 65), disk)
 }
 
-/// The floor that the next opening finds, or why that is refused.
+/// The floor that the next opening finds, or why the record is refused.
 pub fn found_floor(rt: &impl Abort, alloc: Global, disk: MemDisk) -> Result<u32, RecordFault> {
     let record = read(rt, alloc, 2, disk)?;
     let floor = record.floor();
@@ -107,12 +107,12 @@ pub fn empty(rt: &impl Abort, alloc: Global) -> Record<MemDisk> {
     opened(rt, alloc, formatted(rt, alloc))
 }
 
-/// Lets so many further calls of the record's disk pass.
+/// Lets `calls` further calls of the record's disk pass.
 pub fn arm<D: Armed>(record: &mut Record<D>, calls: u32) {
     record.arm(calls);
 }
 
-/// A call of a record came to that.
+/// A call of a record returned what was wanted.
 pub fn ends(rt: &impl Abort, came: Result<(), RecordFault>, wanted: Result<(), RecordFault>) {
     same(rt, came, wanted);
 }
@@ -122,7 +122,7 @@ pub fn is_promised<D: Disk>(rt: &impl Abort, record: &Record<D>, promised: Optio
     same(rt, record.slot(instance(rt, 1)).promised, promised);
 }
 
-/// The record of these bytes, or why they are refused to a node of three.
+/// The record of these bytes, or why a node of three refuses them.
 pub fn read_bytes(
     rt: &impl Abort,
     alloc: Global,
@@ -132,7 +132,7 @@ pub fn read_bytes(
     read(rt, alloc, number, disk_of(rt, alloc, bytes))
 }
 
-/// Why these bytes are refused to a node of three, if they are.
+/// Why a node of three refuses these bytes, if it does.
 fn refusal(rt: &impl Abort, alloc: Global, number: u8, bytes: &[u8]) -> Option<RecordFault> {
     match read_bytes(rt, alloc, number, bytes) {
         Ok(record) => {
@@ -143,7 +143,7 @@ fn refusal(rt: &impl Abort, alloc: Global, number: u8, bytes: &[u8]) -> Option<R
     }
 }
 
-/// These bytes are refused to a node of three so, or not at all.
+/// A node of three refuses these bytes for that reason, or opens them if there is none.
 pub fn is_refused(
     rt: &impl Abort,
     alloc: Global,
@@ -154,7 +154,7 @@ pub fn is_refused(
     same(rt, refusal(rt, alloc, number, bytes), wanted);
 }
 
-/// Puts a round. `NotARecord` where it is no higher one.
+/// Puts a round. `NotARecord` if it is not a higher one.
 pub fn put_round<D: Disk>(record: &mut Record<D>, round: u32) -> Result<(), RecordFault> {
     if record.round() < round {
         record.put_round(round)
@@ -163,7 +163,7 @@ pub fn put_round<D: Disk>(record: &mut Record<D>, round: u32) -> Result<(), Reco
     }
 }
 
-/// Puts a promise. `NotARecord` where an acceptor wouldn't promise.
+/// Puts a promise. `NotARecord` if an acceptor wouldn't promise.
 pub fn put_promise<D: Disk>(
     record: &mut Record<D>,
     instance: Instance,
@@ -198,8 +198,8 @@ fn rising<D: Disk>(
     None
 }
 
-/// Puts the promise of a span of two or more. `NotARecord` where it is none, or an acceptor would promise at
-/// none of its instances.
+/// Puts the promise of a span of two or more. `NotARecord` if it is no such span, or if an acceptor would
+/// promise at none of its instances.
 pub fn put_span<D: Disk>(
     record: &mut Record<D>,
     first: Instance,
@@ -218,7 +218,7 @@ pub fn put_span<D: Disk>(
     }
 }
 
-/// Puts these bytes as a learned value. `NotARecord` where one is learned there.
+/// Puts these bytes as a learned value. `NotARecord` if one is learned there.
 pub fn put_learned<D: Disk>(
     rt: &impl Abort,
     alloc: Global,
@@ -246,7 +246,7 @@ pub fn put_vote_for<D: Disk>(
     put_vote(record, instance, ballot, &value)
 }
 
-/// Puts a vote. `NotARecord` where an acceptor wouldn't vote.
+/// Puts a vote. `NotARecord` if an acceptor wouldn't vote.
 pub fn put_vote<D: Disk>(
     record: &mut Record<D>,
     instance: Instance,

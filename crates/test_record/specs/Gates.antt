@@ -1,7 +1,7 @@
 -- Where a file's entries end.
 use Rattle.std.specs.Prelude.{◌≡◌, ◌≢◌, ℕ, List, ◌∷◌, ◌++◌}
 
--- the file goes on after this front by a gate that isn't open
+-- after this front the file goes on with a gate that isn't open
 pub record IsShutBehind (file front : List ℕ) : Type 0 where
   pub gate : ℕ
   pub rest : List ℕ

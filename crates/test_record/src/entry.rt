@@ -19,7 +19,7 @@ pub enum Entry {
     Floor(Instance),
 }
 
-/// Whether an instance is one of so many, from this one on.
+/// Whether an instance is one of `count` instances from `first` on.
 fn is_in_span(first: Instance, count: u8, instance: Instance) -> bool
     ensures { IsTrue result ↔ IsInSpan first count instance }
 {

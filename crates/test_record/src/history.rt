@@ -71,7 +71,7 @@ fn is_above(earlier: &[Entry], at: Instance, ballot: Ballot) -> bool
     is_free_below(&promise(earlier, at), ballot)
 }
 
-/// Whether that is so at one of so many instances, from one on.
+/// Whether that is so at one of `count` instances from `first` on.
 fn rises(earlier: &[Entry], first: Instance, count: u8, ballot: Ballot) -> bool
     requires { IsSpan first count }
     ensures { IsTrue result ↔ ((at : ℕ) × IsInSpan first count at

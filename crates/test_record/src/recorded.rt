@@ -12,7 +12,7 @@ use crate::entry::Entry;
 use acceptor::Slot;
 use site_ids::{Ballot, Instance, Value, Vote};
 
-/// The last round, 0 where there is none.
+/// The last round, 0 if there is none.
 pub fn last_round(entries: &[Entry]) -> u32
     ensures { result ≡ last_round_of (meanings entries.now) }
 {
@@ -25,7 +25,7 @@ pub fn last_round(entries: &[Entry]) -> u32
     last
 }
 
-/// The greatest round that was recorded or promised, 0 where there is none.
+/// The greatest round that was recorded or promised, 0 if there is none.
 pub fn greatest_round(entries: &[Entry]) -> u32
     ensures { result ≡ greatest_round_of (meanings entries.now) }
 {
@@ -52,7 +52,7 @@ pub fn is_free_at(promised: &Option<Ballot>, ballot: Ballot) -> bool
     }
 }
 
-/// The greatest ballot, with one entry more.
+/// The greatest ballot, after one more entry.
 fn promise_with(promised: Option<Ballot>, entry: &Entry, instance: Instance) -> Option<Ballot>
     ensures { (earlier : List entries.Entry) → IsPromise earlier instance promised
         → IsPromise (earlier ++ meaning entry.now ∷ []) instance result }
@@ -107,7 +107,7 @@ pub fn learned(entries: &[Entry], instance: Instance) -> Option<&Value>
     None
 }
 
-/// The floor, 0 where there is none.
+/// The floor, 0 if there is none.
 pub fn floor(entries: &[Entry]) -> u32
     ensures { result ≡ floor_of (meanings entries.now) }
 {
@@ -117,8 +117,8 @@ pub fn floor(entries: &[Entry]) -> u32
     }
 }
 
-/// How far the entries reach: the greatest instance of a vote, or the floor where that is greater; 0 where
-/// there are neither.
+/// How far the entries reach: the greatest instance of a vote, or the floor if that is greater; 0 if there is
+/// neither.
 pub fn reach(entries: &[Entry]) -> u32
     ensures { result ≡ reach_of (meanings entries.now) }
 {

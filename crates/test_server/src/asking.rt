@@ -4,8 +4,8 @@ use server_pace::{Asking, Telling};
 use std::process::Abort;
 
 /// How many values became known since the last question, whether nothing waits, whether nobody tries a value,
-/// whether it is behind, whether it lacks something, whether its time to ask for that has passed, whether its
-/// time has passed; and whether a question is due.
+/// whether the server is behind, whether it lacks something, whether its time to ask for that has passed,
+/// whether its time since the last question has passed; and whether a question is due.
 type Question = (u32, bool, bool, bool, bool, bool, bool, bool);
 
 const QUESTIONS: &[Question] = &[
@@ -38,10 +38,11 @@ fn a_question_that_brought_news_is_followed_by_the_next(rt: HostRuntime) {
     }
 }
 
-/// Whether it is full, whether its node asked, whether the first instance is known, whether votes may be told
-/// from there on, whether nobody tries a value, whether it is the teller's turn; and whether it is due.
+/// Whether the telling is full, whether its node asked, whether the first instance is known, whether votes
+/// may be told from there on, whether nobody tries a value, whether it is the teller's turn; and whether the
+/// telling is due.
 const TELLINGS: &[(bool, bool, bool, bool, bool, bool, bool)] = &[
-    // Votes are told in any turn, all of a telling at any time.
+    // Votes are told in any turn. A full telling is told at any time.
     (true, false, false, false, false, false, true),
     (false, true, false, true, true, false, true),
     (false, true, false, false, true, true, false),

@@ -6,8 +6,8 @@ use server_pace::Due;
 use site_ids::Instance;
 use std::process::Abort;
 
-/// What stands (fresh, a telling, a question, a tick, whether it yields), and what is called: the first of
-/// them that applies. A tick is due after the patience, or at once.
+/// What is due (a fresh value, a telling, a question, a tick), whether the server yields, and what it calls:
+/// the first of them that applies. A tick is due after the patience, or at once.
 const CALLS: &[(bool, bool, bool, bool, bool, Call)] = &[
     (false, false, false, false, false, Call::Widen),
     (false, false, false, true, false, Call::Tick),
@@ -26,8 +26,8 @@ const CALLS: &[(bool, bool, bool, bool, bool, Call)] = &[
     (false, true, false, false, true, Call::Tell(2, 7)),
 ];
 
-/// What stands, where instances are to be put on record, too: that goes before all but a value that is fresh,
-/// and a question.
+/// What is due, as above, if instances are to be put on record, too. That goes before everything except a
+/// fresh value and a question.
 const KEEPS: &[(bool, bool, bool, bool, bool, Call)] = &[
     (false, false, false, false, false, Call::Keep(5, 3)),
     (false, true, false, true, true, Call::Keep(5, 3)),
@@ -37,12 +37,12 @@ const KEEPS: &[(bool, bool, bool, bool, bool, Call)] = &[
     (true, true, true, true, false, Call::Tick),
 ];
 
-/// The numbers of instances, as a row has them.
+/// The instance of that number.
 fn instance(rt: &impl Abort, number: u32) -> Instance {
     Instance::new(number).expect(rt, "an instance")
 }
 
-/// Each row, where what is put on record is this.
+/// Checks each row. `block` is what is to be put on record.
 fn each(
     rt: &impl Abort,
     rows: &[(bool, bool, bool, bool, bool, Call)],

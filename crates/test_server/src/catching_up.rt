@@ -5,10 +5,10 @@ use crate::group::{Group, turn};
 use std::alloc::Global;
 use std::process::Abort;
 
-/// So many values the others know.
+/// How many values the others know.
 const KNOWN: u32 = 640;
 
-/// One piece of eleven is lost, and one of four, in no order that a telling has.
+/// One piece of eleven is lost, and in `MANY` five of 23. No telling has that order.
 const FEW: &[bool] = &[
     false, false, false, true, false, false, false, false, false, false, false,
 ];
@@ -18,8 +18,8 @@ pub(crate) const MANY: &[bool] = &[
     false, true, false, false, false, false, false, true, false,
 ];
 
-/// A message of that kind from a server, about an instance whose value has a hundred bytes: with this ballot,
-/// or with none.
+/// A message of that kind from a server, about an instance whose value has 100 bytes. `ballot` is empty if
+/// the message has none.
 pub(crate) fn message(
     rt: &impl Abort,
     alloc: Global,
@@ -46,7 +46,7 @@ fn told(rt: &impl Abort, alloc: Global, from: u8, instance: u32) -> Vec<u8> {
     message(rt, alloc, 7, from, instance, &[])
 }
 
-/// A server is told the first so many values.
+/// Node 1 tells a server the first `count` values.
 fn learns(rt: &impl Abort, group: &mut Group, number: u8, count: u32) {
     let (alloc, now) = (group.alloc, group.now);
     let server = group.server(rt, number);
@@ -61,7 +61,7 @@ fn learns(rt: &impl Abort, group: &mut Group, number: u8, count: u32) {
     same(rt, (number, server.served.node.known()), (number, count));
 }
 
-/// A group of so many servers over a bad network, of which the last knows nothing.
+/// A group of `size` servers over a bad network. The last server knows nothing.
 fn behind(
     rt: &impl Abort,
     alloc: Global,
@@ -77,8 +77,8 @@ fn behind(
     Far::new(group, takes, 1, loses, away)
 }
 
-/// After how many milliseconds the last of so many servers knows all; more than the bound where it does not
-/// within it.
+/// After how many milliseconds the last of `size` servers knows all values; more than `bound` if it does not
+/// know them by then.
 fn catches_up(rt: &impl Abort, far: &mut Far, size: u8, bound: u64) -> u64 {
     let since = far.group.now;
     for _ in 0..=bound {
@@ -91,7 +91,7 @@ fn catches_up(rt: &impl Abort, far: &mut Far, size: u8, bound: u64) -> u64 {
 }
 
 /// How many servers there are, how many milliseconds a letter takes, which pieces are lost, which servers are
-/// away; and after how many milliseconds the last one knows all, at most.
+/// away; and after how many milliseconds at most the last one knows all.
 type Row = (u8, u64, &'static [bool], &'static [u8], u64);
 
 const ROWS: &[Row] = &[
@@ -103,7 +103,7 @@ const ROWS: &[Row] = &[
     (3, 20, MANY, &[], 360),
     (5, 20, MANY, &[], 320),
     (3, 100, MANY, &[], 1_500),
-    // One never answers, be it its turn or not.
+    // A server that is away never answers, whether it is its turn or not.
     (3, 20, &[], &[1], 380),
     (3, 20, MANY, &[2], 420),
     (5, 20, &[], &[1, 2], 380),
@@ -121,7 +121,7 @@ fn a_server_catches_up_in_time(rt: HostRuntime) {
 /// Node 1's first ballot.
 const FIRST: &[u8] = &[0, 0, 0, 1, 1];
 
-/// A server votes for the first so many values, and hears that a majority of so many servers did.
+/// A server votes for the first `count` values, and hears that a majority of `size` servers did.
 pub(crate) fn votes(rt: &impl Abort, group: &mut Group, number: u8, count: u32, size: u8) {
     let (alloc, now) = (group.alloc, group.now);
     let server = group.server(rt, number);
@@ -144,8 +144,8 @@ pub(crate) fn votes(rt: &impl Abort, group: &mut Group, number: u8, count: u32, 
 }
 
 /// How many servers there are, how many milliseconds a letter takes, how many lie between passes, how many
-/// values all but the last one know; and after how many milliseconds each shows the release that was
-/// submitted to the last one, at most.
+/// values all except the last one know; and after how many milliseconds at most each shows the release that
+/// was submitted to the last one.
 type Pending = (u8, u64, u64, u32, u64);
 
 const PENDING: &[Pending] = &[
@@ -173,7 +173,7 @@ fn a_value_of_its_own_keeps_nobody_back(rt: HostRuntime) {
     }
 }
 
-/// In the name of a server another one is asked for the first instance.
+/// Server `number` gets a question for the first instance, in the name of server `from`.
 fn asks(rt: &impl Abort, far: &mut Far, from: u8, number: u8) {
     let now = far.group.now;
     let mail = &mut far.group.server(rt, number).mail;
@@ -200,7 +200,8 @@ fn forged_tellings_and_questions_raise_no_flood(rt: HostRuntime) {
     let _ = catches_up(&rt, &mut far, 3, 1_000);
     let before = far.sent;
     for millis in 0..500 {
-        // Somebody tells server 3 of an instance far off, and asks server 1 in its name for the first one.
+        // Somebody tells server 3 the value of a far instance, and asks server 1 for the first one in the
+        // name of server 3.
         let forged = told(&rt, rt.alloc(), 2, 900_000 + millis);
         let now = far.group.now;
         let mail = &mut far.group.server(&rt, 3).mail;

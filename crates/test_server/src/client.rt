@@ -2,7 +2,7 @@
 use std::alloc::{AllocError, Global};
 use std::io::{self, ErrorKind, Read, Write};
 
-/// What it sends, and what it got. A call moves so many bytes at most; after all that it sends it waits.
+/// What it sends, and what it got. A call moves `piece` bytes at most. After it has sent all, it waits.
 #[derive(Drop)]
 pub(crate) struct Client {
     sends: Vec<u8>,
@@ -26,7 +26,7 @@ impl Client {
         self.sent == 0 && self.got.is_empty()
     }
 
-    /// Whether what it got begins so and ends so.
+    /// Whether what it got begins with `front` and ends with `end`.
     pub(crate) fn got_from_to(&self, front: &[u8], end: &[u8]) -> bool {
         let got = self.got();
         got.starts_with(front) && got.ends_with(end)

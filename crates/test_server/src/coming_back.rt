@@ -6,7 +6,7 @@ use crate::group::{Group, turn};
 use std::alloc::Global;
 use std::process::Abort;
 
-/// So many values all servers knew: ten stretches, and a part of one.
+/// How many values all servers knew: ten stretches, and a part of one.
 const KNOWN: u32 = 650;
 
 /// A server votes once more for each value, at a ballot at which no other server votes.
@@ -37,13 +37,13 @@ fn were_down(rt: &impl Abort, alloc: Global, down: &'static [u8]) -> Far {
     Far::new(group, 20, 1, MANY, down)
 }
 
-/// Which servers stay down, and after how many milliseconds each other one knows all, at most.
+/// Which servers stay down, and after how many milliseconds at most each other one knows all.
 type Row = (&'static [u8], u64);
 
 const ROWS: &[Row] = &[
     (&[], 100),
     (&[4, 5], 100),
-    // A server alone knows what it kept.
+    // The only server that is up knows what it kept.
     (&[1, 2, 3, 5], 100),
 ];
 

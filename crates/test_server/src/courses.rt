@@ -1,4 +1,4 @@
-//! How far a node is told that asked: each rule as a table.
+//! How far a node that asked is told: each rule as a table.
 use crate::comparing::{ensure, same};
 use server_pace::{Course, Times};
 use site_ids::Instance;
@@ -8,8 +8,8 @@ fn times() -> Times {
     Times::new(None, None)
 }
 
-/// A node asked for instance 100 at 1000, and is told from 228 on, of five stretches; it takes a tenth of a
-/// second.
+/// A node asked for instance 100 at 1000, and is told from 228 on next. Five stretches may be on their way.
+/// The last telling took a tenth of a second.
 fn course() -> Course {
     Course {
         first: 100,
@@ -28,7 +28,7 @@ fn instance(rt: &impl Abort, number: u32) -> Instance {
     Instance::new(number).expect(rt, "an instance")
 }
 
-/// What it asks for, and how many stretches are its budget then.
+/// Which instance it asks for, and its budget then, in stretches.
 const MOVED: &[(u32, u32)] = &[
     (102, 6),
     (164, 6),
@@ -70,7 +70,7 @@ fn who_asks_again_is_told_again(rt: HostRuntime) {
             ..course()
         };
         same(&rt, first, waits);
-        // Then it is told from there on, a quarter less.
+        // Then it is told from there on, with a budget a quarter less.
         let again = course().heard(times(), 1101, instance(&rt, number));
         let wanted = Course {
             first: number,
@@ -94,7 +94,7 @@ fn what_is_told_again_may_be_on_its_way(rt: HostRuntime) {
         ..course()
     };
     for number in [100, 101] {
-        // For twice as long as that took.
+        // It may be on its way for twice as long as the last telling took.
         let soon = again.heard(times(), 1200, instance(&rt, number));
         let waits = Course {
             first: number,
@@ -113,7 +113,7 @@ fn what_is_told_again_may_be_on_its_way(rt: HostRuntime) {
             ..waits
         };
         same(&rt, late, anew);
-        // So long it took, where it asks further on.
+        // If it asks further on, the time since 1000 is how long the telling took.
         let further = soon.heard(times(), 1250, instance(&rt, 300));
         same(
             &rt,
@@ -143,14 +143,14 @@ fn an_earlier_question_comes_late_or_begins_anew(rt: HostRuntime) {
     }
 }
 
-/// From which instance on it is told next, of how many stretches, how many instances the next one covers; and
-/// whether that may set out.
+/// From which instance on it is told next, its budget in stretches, how many instances the next stretch
+/// covers; and whether that one may be sent.
 const OPEN: &[(u32, u32, u32, bool)] = &[
     (100, 1, 64, true),
     (101, 1, 64, false),
     (164, 2, 64, true),
     (165, 2, 64, false),
-    // Long values: a stretch is of fewer instances.
+    // Long values: a stretch covers fewer instances.
     (108, 2, 8, true),
     (109, 2, 8, false),
     (4132, 64, 64, true),

@@ -1,4 +1,4 @@
-//! Servers far apart: each letter takes so many milliseconds.
+//! Servers far apart: each letter takes some milliseconds.
 use crate::comparing::{ensure, same};
 use crate::group::{Group, node_of, packed, turn};
 use command::write;
@@ -16,17 +16,17 @@ struct Flight {
     piece: Vec<u8>,
 }
 
-/// A group, how long a letter takes, how many milliseconds lie between passes, and pieces on their way, the
-/// first to come first.
+/// A group, how long a letter takes, how many milliseconds lie between passes, and pieces on their way, in
+/// the order in which they come.
 #[derive(Drop)]
 pub(crate) struct Far {
     pub group: Group,
     takes: u64,
     step: u64,
     flights: VecDeque<Flight>,
-    // of pieces one after the other whether they are lost, and again from the first on
+    // for each piece in turn whether it is lost; the first entry follows the last
     loses: &'static [bool],
-    /// So many set out.
+    /// How many pieces were sent.
     pub sent: usize,
     // these nodes are away
     away: &'static [u8],
@@ -43,7 +43,7 @@ pub(crate) fn release(rt: &impl Abort, alloc: Global, editor: u8) -> Value {
 }
 
 impl Far {
-    /// Its letters take so long, some of them are lost, and these nodes are away.
+    /// Letters take `takes` milliseconds, some are lost, and the nodes of `away` are away.
     pub(crate) fn new(
         group: Group,
         takes: u64,
@@ -72,13 +72,13 @@ impl Far {
         }
     }
 
-    /// It is submitted to the server of that number.
+    /// Submits a value to the server of that number.
     pub(crate) fn submit(&mut self, rt: &impl Abort, number: u8, value: &Value) {
         let done = self.group.server(rt, number).served.node.submit(value);
         same(rt, (number, done), (number, Ok(Submitted::Queued)));
     }
 
-    /// What comes by now waits at its server.
+    /// Each piece that has come by now waits at its server.
     fn arrive(&mut self, rt: &impl Abort) {
         for _ in 0..self.flights.len() {
             let is_there = match self.flights.front() {
@@ -96,7 +96,7 @@ impl Far {
         }
     }
 
-    /// What the letters of one server have for another one sets out.
+    /// Sends what the letters of one server have for another one.
     fn set_out(&mut self, rt: &impl Abort, from: u8, to: u8, size: u8) {
         let now = self.group.now;
         let at = now.saturating_add(self.takes);
@@ -122,7 +122,7 @@ impl Far {
         }
     }
 
-    /// A pass of each of so many servers that is not away.
+    /// A pass of each of the `size` servers, except for those that are away.
     pub(crate) fn goes_on(&mut self, rt: &impl Abort, size: u8) {
         self.group.now = self.group.now.saturating_add(self.step);
         self.arrive(rt);
@@ -133,7 +133,7 @@ impl Far {
         }
     }
 
-    /// How many releases the server shows that shows the fewest.
+    /// The fewest releases that a server shows.
     fn fewest(&mut self, rt: &impl Abort, size: u8) -> u64 {
         let mut fewest = u64::MAX;
         for number in 1..=size {
@@ -142,8 +142,8 @@ impl Far {
         fewest
     }
 
-    /// After how many milliseconds each of so many servers shows so many releases; more than the bound where
-    /// some does not within it.
+    /// After how many milliseconds each of `size` servers shows `releases` releases; more than `bound` if
+    /// some server does not show them by then.
     pub(crate) fn shows(&mut self, rt: &impl Abort, size: u8, releases: u64, bound: u64) -> u64 {
         let since = self.group.now;
         for _ in 0..=bound / self.step.max(1) {
@@ -156,8 +156,8 @@ impl Far {
     }
 }
 
-/// How many servers there are, how many milliseconds a letter takes, which of them are submitted a value, how
-/// many milliseconds one after the other; and how many after the last one each shows them all, at most.
+/// How many servers there are, how many milliseconds a letter takes, which servers get a value, how many
+/// milliseconds apart; and how many milliseconds at most after the last value each shows them all.
 type Row = (u8, u64, &'static [u8], u64, u64);
 
 const ROWS: &[Row] = &[

@@ -6,8 +6,8 @@ use site_ids::Cluster;
 use std::alloc::Global;
 use std::process::Abort;
 
-/// How many nodes there are, in whose place a record is made, what is told; and the floor, or why there is
-/// none.
+/// How many nodes there are, in whose place a record is made, the given reaches; and the floor, or why there
+/// is none.
 type Row = (u8, u8, &'static [&'static str], Result<u32, FloorFault>);
 
 const ROWS: &[Row] = &[
@@ -18,7 +18,7 @@ const ROWS: &[Row] = &[
     (5, 1, &["2:9", "4:8", "5:70"], Ok(134)),
     (5, 1, &["5:1", "4:2", "3:3", "2:4"], Ok(68)),
     (9, 9, &["1:1", "2:1", "3:1", "4:1", "5:1"], Ok(65)),
-    // too few: the lost node counts for the group's size, and is none of those asked
+    // too few: the lost node counts for the group's size, and is not one of those asked
     (3, 1, &["2:57"], Err(FloorFault::TooFew)),
     (4, 1, &["2:57", "3:57"], Err(FloorFault::TooFew)),
     (5, 1, &["2:9", "3:9"], Err(FloorFault::TooFew)),
@@ -32,14 +32,14 @@ const ROWS: &[Row] = &[
         &["2:0", "3:18446744073709551615"],
         Err(FloorFault::TooFar),
     ),
-    // no other node of the group
+    // not another node of the group
     (3, 1, &["1:57", "2:57"], Err(FloorFault::NotAnother)),
     (3, 1, &["2:57", "4:57"], Err(FloorFault::NotAnother)),
     (1, 1, &["1:57"], Err(FloorFault::NotAnother)),
     // one twice
     (3, 1, &["2:57", "2:58"], Err(FloorFault::Twice)),
     (5, 1, &["2:1", "3:1", "2:1"], Err(FloorFault::Twice)),
-    // no node and reach
+    // not a node and a reach
     (3, 1, &["2:57", "3"], Err(FloorFault::NotTold)),
     (3, 1, &["2:57", ""], Err(FloorFault::NotTold)),
     (3, 1, &["2:57", "3:"], Err(FloorFault::NotTold)),

@@ -14,10 +14,10 @@ use site_ids::{Cluster, NodeId, NodeSet};
 use std::alloc::Global;
 use std::process::Abort;
 
-/// No script knows more instances than so many.
+/// The most instances that a script knows.
 const INSTANCES: u32 = 2_000;
 
-/// A server, boxed: what owns one is proved to let it go, and a box is let go of in one step.
+/// A server in a box. What owns a server is proved to drop it, and a box is dropped in one step.
 pub(crate) type Boxed = Box<Server<MemDisk, Client>>;
 
 /// The servers of a group, and the moment in milliseconds.
@@ -28,7 +28,7 @@ pub(crate) struct Group {
     pub now: u64,
 }
 
-/// A server over a node of that disk. None where memory was refused.
+/// A server over a node of that disk. `None` if an allocation failed.
 fn served(alloc: Global, cluster: Cluster, me: NodeId, disk: MemDisk) -> Option<Boxed>
     requires { IsNode cluster me }
 {
@@ -45,7 +45,7 @@ fn served(alloc: Global, cluster: Cluster, me: NodeId, disk: MemDisk) -> Option<
     .ok()
 }
 
-/// One over a record that was just made. None where memory was refused.
+/// A server over a new record. `None` if an allocation failed.
 pub(crate) fn fresh(alloc: Global, cluster: Cluster, me: NodeId) -> Option<Boxed>
     requires { IsNode cluster me }
 {
@@ -56,7 +56,8 @@ pub(crate) fn fresh(alloc: Global, cluster: Cluster, me: NodeId) -> Option<Boxed
     served(alloc, cluster, me, disk)
 }
 
-/// Another one over its disk, after a crash by that choice or without one. None where memory was refused.
+/// Another server over the disk of this one, after a crash by that choice or without one. `None` if an
+/// allocation failed.
 pub(crate) fn reopened(
     alloc: Global,
     cluster: Cluster,
@@ -73,7 +74,8 @@ pub(crate) fn reopened(
     served(alloc, cluster, me, disk)
 }
 
-/// A pass of a server: it hears its clients, takes a step, tells them, and learns how long it would rest.
+/// A pass of a server: it reads from its clients, takes a step, writes to them, and computes how long it
+/// would rest.
 pub(crate) fn turn(server: &mut Boxed, now: u64) -> Result<(), ServerFault> {
     let came = server.seats.read_each(now)?;
     let stepped = server.step(now)?;
@@ -82,7 +84,7 @@ pub(crate) fn turn(server: &mut Boxed, now: u64) -> Result<(), ServerFault> {
     Ok(())
 }
 
-/// A piece of these bytes comes after the others.
+/// Appends a piece of these bytes.
 fn push_piece(rt: &impl Abort, alloc: Global, pieces: &mut Vec<Vec<u8>>, bytes: &[u8]) {
     let piece = Vec::from_slice(alloc, bytes).expect(rt, "memory");
     pieces.push(piece).expect(rt, "memory");
@@ -101,8 +103,8 @@ pub(crate) fn is_seated(
     is
 }
 
-/// What was packed goes to a node: as it is, or where that is due as a packet, which one that reads none gets
-/// beside it.
+/// What was packed goes to a node as it is, or as a packet if one is due. A node that reads no packets then
+/// gets both.
 fn push_packed(
     rt: &impl Abort,
     alloc: Global,
@@ -151,7 +153,7 @@ pub(crate) fn packed(
     pieces
 }
 
-/// The node of that number, in a cluster of so many.
+/// The node of that number, in a cluster of `size` nodes.
 pub(crate) fn node_of(rt: &impl Abort, size: u8, number: u8) -> NodeId {
     let cluster = Cluster::new(size).expect(rt, "a cluster");
     cluster.node(number).expect(rt, "a node")
@@ -174,7 +176,7 @@ fn take_in(rt: &impl Abort, mail: &mut Mail, pieces: &[Vec<u8>], now: u64) {
 }
 
 impl Group {
-    /// So many, each over a record that was just made.
+    /// A group of `size` servers, each over a new record.
     pub(crate) fn new(rt: &impl Abort, alloc: Global, size: u8) -> Group {
         let cluster = Cluster::new(size).expect(rt, "a cluster");
         let mut servers = Vec::new(alloc);
@@ -209,7 +211,7 @@ impl Group {
         ensure(rt, is_seated(rt, seats, client, now), number);
     }
 
-    /// What the letters of one server have for another one.
+    /// Brings what the letters of one server have for another one.
     fn carry(&mut self, rt: &impl Abort, from: u8, to: u8) {
         let (alloc, now) = (self.alloc, self.now);
         let node = node_of(rt, self.size(), to);
@@ -217,7 +219,7 @@ impl Group {
         take_in(rt, &mut self.server(rt, to).mail, pieces.as_slice(), now);
     }
 
-    /// A pass of one server, whose letters reach each other one but for those that are away.
+    /// A pass of one server. Its letters reach each other server, except for those that are away.
     fn pass(&mut self, rt: &impl Abort, number: u8, away: &[u8]) {
         let now = self.now;
         ensure(rt, turn(self.server(rt, number), now).is_ok(), number);
@@ -228,7 +230,7 @@ impl Group {
         }
     }
 
-    /// So many milliseconds, with a pass of each server in each of them, but for those that are away.
+    /// In each of `millis` milliseconds each server makes a pass, except for those that are away.
     pub(crate) fn goes_on(&mut self, rt: &impl Abort, millis: u64, away: &[u8]) {
         for _ in 0..millis {
             self.now = self.now.saturating_add(1);
@@ -240,7 +242,7 @@ impl Group {
         }
     }
 
-    /// The server of that number knows so many values, and shows so many releases.
+    /// The server of that number knows `known` values, and shows `newest` releases.
     pub(crate) fn stands(&mut self, rt: &impl Abort, number: u8, known: u32, newest: u64) {
         let node = &self.server(rt, number).served.node;
         let is = (number, node.known(), node.newest());
@@ -253,13 +255,15 @@ impl Group {
         self.server(rt, number).seats.leave(late)
     }
 
-    /// What the next client of that server got, whose connection ends, begins so and ends so.
+    /// What the next client got whose connection with that server ends begins with `front` and ends with
+    /// `end`.
     pub(crate) fn next_got(&mut self, rt: &impl Abort, number: u8, front: &[u8], end: &[u8]) {
         let client = self.leaves(rt, number).expect(rt, "a client");
         ensure(rt, client.got_from_to(front, end), number);
     }
 
-    /// So many clients of that server are there still, and what each of them got begins so and ends so.
+    /// Exactly `count` clients of that server are still there. What each of them got begins with `front` and
+    /// ends with `end`.
     pub(crate) fn got(&mut self, rt: &impl Abort, number: u8, count: u8, front: &[u8], end: &[u8]) {
         for _ in 0..count {
             self.next_got(rt, number, front, end);
@@ -267,7 +271,7 @@ impl Group {
         ensure(rt, self.leaves(rt, number).is_none(), number);
     }
 
-    /// Each server is ended at once, and opened over what a crash by that choice leaves of its disk.
+    /// Each server ends at once, and another one opens over what a crash by that choice leaves of its disk.
     pub(crate) fn crash(&mut self, rt: &impl Abort, choice: u8) {
         let cluster = Cluster::new(self.size()).expect(rt, "a cluster");
         let mut servers = Vec::new(self.alloc);

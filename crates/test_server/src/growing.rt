@@ -44,7 +44,7 @@ fn a_file_grows_again_when_half_is_used(rt: HostRuntime) {
     }
 }
 
-/// A node alone, over a record that was just made. `None` if memory was refused.
+/// A node alone, over a new record. `None` if an allocation failed.
 fn fresh(alloc: Global, cluster: Cluster, me: NodeId) -> Option<Node<MemDisk>>
     requires { IsNode cluster me }
 {
@@ -61,7 +61,7 @@ fn alone(rt: &impl Abort, alloc: Global) -> Node<MemDisk> {
     fresh(alloc, cluster, me).expect(rt, "memory")
 }
 
-/// How long the file of a node is after so many empty batches at this desk.
+/// How long the file of a node is after `batches` empty batches at this desk.
 fn length_after(rt: &impl Abort, alloc: Global, mut desk: Desk, batches: u32) -> u64 {
     let mut node = alone(rt, alloc);
     for _ in 0..batches {
@@ -76,8 +76,8 @@ fn length_after(rt: &impl Abort, alloc: Global, mut desk: Desk, batches: u32) ->
     length.unwrap_or(0)
 }
 
-/// An empty record has 11 bytes. With room after its gate, which is byte 10, the file has that from the first
-/// batch on, and no more after the second.
+/// An empty record has 11 bytes. With room after its gate, which is byte 10, the file has that room from the
+/// first batch on, and no more after the second.
 #[test]
 fn a_batch_makes_room_first(rt: HostRuntime) {
     let alloc = rt.alloc();

@@ -3,7 +3,7 @@ use crate::comparing::same;
 use server_pace::{Keeping, Times};
 
 /// How many instances were kept and since when more are known, the moment, how many are known; and since when
-/// more are then.
+/// more are known then.
 const NOTED: &[(u32, Option<u64>, u64, u32, Option<u64>)] = &[
     (0, None, 9, 0, None),
     (0, None, 9, 1, Some(9)),

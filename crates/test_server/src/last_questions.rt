@@ -4,8 +4,9 @@ use crate::pacing::{TIMES, seen};
 use server_pace::{LastQuestion, Seen};
 use std::process::Abort;
 
-/// When it asked at known 7, the moment, empty steps, how many are known, how far messages reached, whether
-/// all came, whether somebody tried a value, whether more on its record is to be told; and whether it asks.
+/// When a server that knew seven values asked last, the moment, empty steps, how many values are known, how
+/// far messages reached, whether all came, whether somebody tried a value, whether more on its record is to
+/// be told; and whether it asks.
 type Asks = (Option<u64>, u64, u32, u32, u32, bool, bool, bool, bool);
 
 const ASKS: &[Asks] = &[
@@ -21,7 +22,7 @@ const ASKS: &[Asks] = &[
     (Some(1000), 1001, 0, 7, 7, true, true, true, false),
     (Some(1000), 1001, 0, 8, 8, false, true, true, false),
     (Some(1000), 1001, 0, 8, 8, false, false, false, false),
-    // Who is behind goes on though somebody tries a value, once all came.
+    // A server that is behind asks on even if somebody tries a value, once all came.
     (Some(1000), 1001, 0, 8, 71, true, true, false, false),
     (Some(1000), 1001, 0, 8, 72, true, true, false, true),
     (Some(1000), 1001, 0, 8, 72, false, true, false, false),
@@ -29,8 +30,8 @@ const ASKS: &[Asks] = &[
 ];
 
 /// How many questions in a row were for one instance, the moment, how far messages reached, whether all came,
-/// whether somebody tried a value; and whether it asks, where it asked at 1000, and knows seven as it did
-/// then.
+/// whether somebody tried a value; and whether a server asks that asked at 1000, and knows seven values as it
+/// did then.
 const AGAIN: &[(u32, u64, u32, bool, bool, bool)] = &[
     (0, 1004, 8, true, false, false),
     (0, 1005, 8, true, false, true),
@@ -50,7 +51,7 @@ const AGAIN: &[(u32, u64, u32, bool, bool, bool)] = &[
     (u32::MAX, 1400, 8, false, true, true),
 ];
 
-/// It knows so many, and messages reached so far.
+/// What a server sees that knows `known` values, if messages reached `reached`.
 fn behind(known: u32, reached: u32, drained: bool) -> Seen {
     Seen {
         reached,

@@ -1,4 +1,4 @@
-//! A majority that is up shows everything, whoever was away before all lost power, and nobody posts.
+//! A majority that is up shows everything without a new post, whoever was away before all lost power.
 use crate::comparing::same;
 use crate::group::{Group, turn};
 use command::write;
@@ -20,7 +20,7 @@ fn release(rt: &impl Abort, alloc: Global, number: u32) -> Value {
     Value::from_bytes(bytes).expect(rt, "a value")
 }
 
-/// Each server knows so many values and shows as many releases, but for those that are away.
+/// Each server knows `known` values and shows as many releases, except for those that are away.
 fn all_stand(rt: &impl Abort, group: &mut Group, size: u8, away: &[u8], known: u32) {
     for number in 1..=size {
         if !away.contains(&number) {
@@ -29,8 +29,8 @@ fn all_stand(rt: &impl Abort, group: &mut Group, size: u8, away: &[u8], known: u
     }
 }
 
-/// A group of so many, one of which is away while values are published, and then learns them from the others;
-/// and then all lose power.
+/// A group of `size` servers. One is away while values are published, and then learns them from the others.
+/// Then all lose power.
 fn cut_behind(rt: &impl Abort, alloc: Global, size: u8, away: u8) -> Group {
     let mut group = Group::new(rt, alloc, size);
     let at = if away == 1 { 2 } else { 1 };
@@ -48,7 +48,7 @@ fn cut_behind(rt: &impl Abort, alloc: Global, size: u8, away: u8) -> Group {
     group
 }
 
-/// Each server is away in turn; and then so are these.
+/// Each server is away in turn before the power cut. The servers of `down` are away after it.
 fn each_shows_all(rt: &impl Abort, alloc: Global, size: u8, down: &[u8]) {
     for away in 1..=size {
         let mut group = cut_behind(rt, alloc, size, away);
@@ -124,7 +124,7 @@ fn votes_for_one_value_at_two_ballots_are_decided_again(rt: HostRuntime) {
     all_stand(&rt, &mut group, 3, &[1], 40);
 }
 
-/// At 150 instances a second, and a second before the first.
+/// The time of 2,000 instances at 150 a second, and a second before the first.
 const MILLIS: u64 = 14_333;
 
 #[test]

@@ -131,7 +131,7 @@ const REPLACED: &[Pass] = &[
     (2011, 66, BOTH, FINE, &[]),
 ];
 
-/// The same, where all up to the floor is known after the first pass.
+/// The same, if all up to the floor is known after the first pass.
 const TOLD_ITSELF: &[Pass] = &[(
     0,
     70,
@@ -166,7 +166,7 @@ const SLOW: &[Behind] = &[
     (5500, 100, 160, &[]),
     (6000, 123, 186, &[]),
     (7999, 185, 187, &[]),
-    // what was heard of in the first part of the last two is known, and few came
+    // what was heard of in the first part of the last two seconds is known, and few came
     (8000, 186, 190, &["caught up to instance 186"]),
     (9999, 187, 900, &[]),
 ];
@@ -185,7 +185,7 @@ const BUSY: &[Behind] = &[
     (2000, 30, 31, &["caught up to instance 30"]),
 ];
 
-/// A note reads so.
+/// The text of the note is this line.
 fn reads(rt: &impl Abort, alloc: Global, note: Note, line: &str) {
     let text = format!(in alloc; "{note}").expect(rt, "memory");
     same(rt, text.as_str(), line);
@@ -324,7 +324,7 @@ const HOURS: &[(u64, &[&str])] = &[
     ),
     (HOUR + 1008, &[]),
     (2 * HOUR - 1, &[]),
-    // hours in which nothing passed have no figures
+    // hours without a pass have no figures
     (
         5 * HOUR,
         &["figures instance=0 release=0 record_bytes=18000000 memory_bytes=8192"],

@@ -5,7 +5,7 @@ use server_pace::{Pace, Resting, Seen, Ticking, Times, has_passed};
 use site_ids::Cluster;
 use std::process::Abort;
 
-/// Those of a server whose command line names none.
+/// The times of a server whose command line names none.
 pub(crate) const TIMES: Times = Times {
     patience: 100,
     growth: 3,
@@ -53,7 +53,7 @@ fn a_command_line_names_two_times(rt: HostRuntime) {
     same(&rt, Times::new(Some(250), Some(2000)), named);
 }
 
-/// Since when, the moment, so many milliseconds, and whether they have passed.
+/// Since when, the moment, how many milliseconds, and whether they have passed.
 const PASSED: &[(Option<u64>, u64, u64, bool)] = &[
     (None, 0, 400, true),
     (Some(0), 0, 0, true),
@@ -97,8 +97,8 @@ fn greater_numbers_wait_longer(rt: HostRuntime) {
     }
 }
 
-/// Whether a tick is wanted, since when it was, whether anything but questions came, and whether a value is
-/// fresh.
+/// Whether a tick is wanted, since when it was, whether anything except questions came, and whether a value
+/// is fresh.
 const FRESH: &[(bool, Option<u64>, bool, bool)] = &[
     (true, None, false, true),
     (true, None, true, false),
@@ -123,9 +123,9 @@ fn a_value_that_nobody_tries_is_fresh(rt: HostRuntime) {
     }
 }
 
-/// What stood at known 7, where it waits two patiences longer: since when a tick is wanted, how many were
-/// due. Whether one is wanted at 9, how many are known; and since when then, how many were due, how many
-/// patiences longer it waits.
+/// A server that knows seven values waits two patiences longer: since when a tick is wanted, how many were
+/// due. Then whether a tick is wanted at 9, how many values are known; and since when a tick is wanted then,
+/// how many were due, how many patiences longer it waits.
 type Noted = (Option<u64>, u32, bool, u32, Option<u64>, u32, u32);
 
 const NOTED: &[Noted] = &[
@@ -139,7 +139,7 @@ const NOTED: &[Noted] = &[
     (None, 0, false, 8, None, 0, 0),
 ];
 
-/// So many values are known, and a tick is wanted, or not.
+/// What a server sees that knows `known` values, if a tick is wanted or not.
 pub(crate) fn seen(known: u32, wanted: bool, resumes: bool) -> Seen {
     Seen {
         known,
@@ -175,9 +175,9 @@ fn news_begin_the_patience_anew(rt: HostRuntime) {
     }
 }
 
-/// How many values were known as it ticked last, how many were noted; whether a tick is wanted, how many are
-/// known, whether it voted for the last of them at an own ballot and at the next one at any; and whether the
-/// next tick is due at once.
+/// How many values were known when it ticked last, how many when it was noted last; whether a tick is wanted,
+/// how many are known, whether it voted for the last of them at its own ballot and for the next one at any;
+/// and whether the next tick is due at once.
 const GOES_ON: &[(Option<u32>, u32, bool, u32, bool, bool)] = &[
     (Some(7), 7, true, 8, true, true),
     (Some(7), 7, false, 8, true, false),
@@ -214,7 +214,7 @@ fn a_server_that_decides_again_goes_on_at_once(rt: HostRuntime) {
 }
 
 /// Since when a tick is wanted, how many were due, how many patiences longer it waits, the moment, and
-/// whether one is due, of a patience of 150 milliseconds that grows three times.
+/// whether one is due. The patience is 150 milliseconds, and grows three times.
 const TICKS: &[(Option<u64>, u32, u32, u64, bool)] = &[
     (None, 0, 0, 1_000_000, false),
     (Some(1000), 0, 0, 1149, false),
@@ -264,7 +264,7 @@ const LEFT: &[(Option<u64>, Option<u64>, bool, bool, u64, Option<u64>)] = &[
     // For fifteen seconds at most.
     (Some(15_099), Some(100), false, true, 15_100, Some(15_099)),
     (Some(15_099), Some(100), false, true, 90_000, Some(15_099)),
-    // With a stake it leaves it to nobody, and without messages nothing is put off.
+    // A server with a stake leaves it to nobody. Without messages nothing is put off.
     (Some(100), Some(100), true, true, 900, Some(100)),
     (Some(100), Some(100), false, false, 900, Some(100)),
 ];
@@ -289,7 +289,7 @@ fn who_has_no_stake_leaves_it_to_the_others(rt: HostRuntime) {
             ..ticking
         };
         same(&rt, (ticking, now, is), (ticking, now, noted));
-        // News, or no tick wanted, begin it anew.
+        // It begins anew with news, and if no tick is wanted.
         let unwanted = Seen {
             wanted: false,
             ..seen
@@ -303,7 +303,7 @@ fn who_has_no_stake_leaves_it_to_the_others(rt: HostRuntime) {
 }
 
 /// How many ticks were due, how many patiences longer it waits, whether the server has a stake; the moment,
-/// and whether a tick is due that is waited for since 1000, of a patience of 150 milliseconds.
+/// and whether a tick is due. It is waited for since 1000, with a patience of 150 milliseconds.
 const LONGER: &[(u32, u32, bool, u64, bool)] = &[
     (0, 0, true, 1150, true),
     (0, 0, false, 2649, false),
@@ -370,8 +370,8 @@ fn a_tick_that_a_majority_answers_in_vain_is_counted(rt: HostRuntime) {
     }
 }
 
-/// What came (anything, a response, messages that are no questions), empty steps, how many microseconds are
-/// rested, and empty steps then.
+/// What came (anything, a response, messages that are no questions), empty steps, how many microseconds the
+/// server rests, and empty steps then.
 const RESTS: &[(bool, bool, bool, u32, Option<u64>, u32)] = &[
     (false, false, false, 0, Some(0), 1),
     (false, false, false, 15, Some(0), 16),
@@ -404,7 +404,7 @@ fn a_step_rests_where_nothing_came(rt: HostRuntime) {
     }
 }
 
-/// Empty steps, and how many microseconds a server rests that tells somebody something.
+/// Empty steps, and how many microseconds a server rests while it tells somebody something.
 const TELLS: &[(u32, u64)] = &[
     (0, 0),
     (15, 0),
@@ -446,8 +446,8 @@ fn with_many_clients_it_rests_at_once(rt: HostRuntime) {
     }
 }
 
-/// Whether anything came, whether a response was written, how many such steps follow one another, and what
-/// each of them rests.
+/// Whether anything came, whether a response was written, how many such steps follow one another, and how
+/// many microseconds the server rests after each.
 const STEPS: &[(bool, bool, u32, Option<u64>)] = &[
     (false, false, 3, Some(20_000)),
     (true, false, 2, None),

@@ -1,4 +1,4 @@
-//! Packets as tables: what is sent of datagrams, what comes of bytes, and which letters go together.
+//! Packets as tables: how datagrams are sent, what bytes that came hold, and which letters go together.
 use crate::comparing::{ensure, same};
 use crate::group::{Boxed, Group, node_of};
 use node::To;
@@ -9,7 +9,7 @@ use site_ids::NodeId;
 use std::alloc::Global;
 use std::process::Abort;
 
-/// Datagrams, and what is sent of them.
+/// Datagrams, and the bytes that are sent for them.
 type Sent = (&'static [&'static [u8]], &'static [u8]);
 
 const SENT: &[Sent] = &[
@@ -23,7 +23,7 @@ const SENT: &[Sent] = &[
     ),
 ];
 
-/// The packet takes a datagram more.
+/// The packet takes one more datagram.
 fn take(rt: &impl Abort, packet: &mut Packet, datagram: &[u8]) {
     ensure(rt, packet.has_room(datagram.len()), datagram);
     packet.push(datagram).expect(rt, "memory");
@@ -42,7 +42,7 @@ fn datagrams_are_sent_as_one(rt: HostRuntime) {
     }
 }
 
-/// Bytes that came, and the datagrams of the packet that they are; none where they are no packet.
+/// Bytes that came, and the datagrams of the packet that they are; `None` if they are no packet.
 type Came = (&'static [u8], Option<&'static [&'static [u8]]>);
 
 const CAME: &[Came] = &[
@@ -53,7 +53,7 @@ const CAME: &[Came] = &[
     ),
     (&[3, 0, 0, 0, 0, 0, 0, 0, 1, 9], Some(&[&[], &[9]])),
     (&[3, 0, 0, 0, 1, 7], Some(&[&[7]])),
-    // No mark; a part of a length; of a datagram; a byte more; a length past the end.
+    // No mark; a part of a length; a part of a datagram; a byte too many; a length past the end.
     (&[], None),
     (&[1, 6, 1, 0, 0, 0, 1], None),
     (&[2, 0, 0, 0, 1, 7], None),
@@ -95,7 +95,7 @@ const ROOM: &[(usize, usize, bool)] = &[
     (32_790, 7, false),
 ];
 
-/// So many bytes.
+/// As many bytes as `len`.
 fn bytes(rt: &impl Abort, alloc: Global, len: usize) -> Vec<u8> {
     let mut bytes = Vec::new(alloc);
     bytes.resize(len, 7).expect(rt, "memory");
@@ -113,11 +113,11 @@ fn a_packet_has_a_bound(rt: HostRuntime) {
     }
 }
 
-/// How many letters go into a packet, and its bytes; none of an empty one.
+/// How many letters go into a packet, and how many bytes it has; `None` if it is empty.
 type Packed = (usize, Option<usize>);
 
-/// Letters: whom each is for, 0 for all, and of how many bytes; and what goes into the first packet for node
-/// 2.
+/// Letters: whom each is for, 0 for all, and how many bytes it has; and what goes into the first packet for
+/// node 2.
 const PACKINGS: &[(&[(u8, usize)], Packed)] = &[
     (&[], (0, None)),
     (&[(1, 9), (3, 9)], (2, None)),
@@ -171,7 +171,7 @@ fn letters_for_a_node_go_together(rt: HostRuntime) {
     }
 }
 
-/// The same where that node reads no packets.
+/// The same, if that node reads no packets.
 const ALONE: &[(&[(u8, usize)], Packed)] = &[
     (&[], (0, None)),
     (&[(1, 9), (3, 9)], (2, None)),
@@ -190,7 +190,7 @@ fn letters_for_a_node_without_packets_go_one_by_one(rt: HostRuntime) {
     }
 }
 
-/// How many bytes a datagram has, and those of the packet that it alone makes.
+/// How many bytes a datagram has, and how many a packet of only that datagram has.
 const ALONE_AS_PACKETS: &[(usize, Option<usize>)] = &[
     (0, Some(5)),
     (9, Some(14)),
@@ -209,7 +209,7 @@ fn a_datagram_alone_may_be_a_packet(rt: HostRuntime) {
     }
 }
 
-/// A piece that came, and how many of its datagrams spell no message.
+/// A piece that came, and how many of its datagrams are no message.
 const PIECES: &[(&[u8], u64)] = &[
     (&[1, 6, 1, 0, 0, 0, 1], 0),
     (&[9], 1),
@@ -223,8 +223,7 @@ const PIECES: &[(&[u8], u64)] = &[
     (&[3, 0, 0, 0, 9, 1, 6, 1, 0, 0, 0, 1], 1),
 ];
 
-/// A server takes in a piece, and a step of it tells how many datagrams spelled no message; none where it
-/// halts.
+/// A server takes in a piece. Its step reports how many datagrams are no message; `None` if it halts.
 fn malformed_in(rt: &impl Abort, server: &mut Boxed, piece: &[u8]) -> Option<u64> {
     server.mail.take_in(piece, 0).expect(rt, "memory");
     match server.step(0) {

@@ -1,4 +1,4 @@
-//! Clients that have their last response: how long each is read, and which one goes for another.
+//! Clients that have their last response: how long each is read, and which one makes room for another.
 use crate::comparing::{ensure, same};
 use crate::group::Group;
 use server::{Linger, Partings};
@@ -24,7 +24,7 @@ fn a_connection_lingers_for_so_long_and_so_many_bytes(rt: HostRuntime) {
     }
 }
 
-/// What a client does that has sent all.
+/// What a client does after it has sent all.
 #[derive(Clone, Copy, Drop)]
 enum Then {
     Waits,
@@ -32,7 +32,7 @@ enum Then {
     Fails,
 }
 
-/// A client that sends so many bytes more.
+/// A client that sends `left` bytes more.
 #[derive(Drop)]
 struct Sender {
     number: u64,

@@ -1,5 +1,5 @@
-//! A node that is built by the formats alone, among servers: to it each datagram is one message, and a packet
-//! spells none.
+//! A node that is built by the formats only, among servers. To it each datagram is one message, and a packet
+//! is no message.
 use crate::comparing::{ensure, same};
 use crate::group::{Group, node_of, packed, turn};
 use command::write;
@@ -22,7 +22,7 @@ struct Mixed {
     several: u32,
 }
 
-/// The number of the plain one.
+/// The number of the plain node.
 const PLAIN: u8 = 3;
 
 /// A release, under that ticket.
@@ -63,7 +63,7 @@ impl Mixed {
         same(rt, (at, number, done), (at, number, Ok(Submitted::Queued)));
     }
 
-    /// So many values are submitted there, a few at a time, while another one is away.
+    /// Submits `count` values there, a few at a time, while another server is away.
     fn publish(&mut self, rt: &impl Abort, at: u8, count: u64, away: u8) {
         for number in 1..=count {
             self.submit(rt, at, number);
@@ -73,7 +73,7 @@ impl Mixed {
         }
     }
 
-    /// A piece comes, unless it is a packet and one of both is the plain one.
+    /// A piece comes, unless it is a packet from or to the plain node.
     fn bring(&mut self, rt: &impl Abort, from: u8, to: u8, piece: &[u8]) {
         let is_packet = piece.first() == Some(&MARK);
         if is_packet && (from == PLAIN || to == PLAIN) {
@@ -90,7 +90,7 @@ impl Mixed {
         mail.take_in(piece, now).expect(rt, "memory");
     }
 
-    /// What the letters of one server have for another one.
+    /// Brings what the letters of one server have for another one.
     fn carry(&mut self, rt: &impl Abort, from: u8, to: u8) {
         let (alloc, now) = (self.group.alloc, self.group.now);
         let node = node_of(rt, 3, to);
@@ -100,7 +100,7 @@ impl Mixed {
         }
     }
 
-    /// A pass of one server, whose letters reach each other one but for those that are away.
+    /// A pass of one server. Its letters reach each other server, except for those that are away.
     fn pass(&mut self, rt: &impl Abort, from: u8, away: &[u8]) {
         let now = self.group.now;
         ensure(rt, turn(self.group.server(rt, from), now).is_ok(), from);
@@ -111,7 +111,7 @@ impl Mixed {
         }
     }
 
-    /// So many milliseconds, with a pass of each server in each of them, but for those that are away.
+    /// In each of `millis` milliseconds each server makes a pass, except for those that are away.
     fn goes_on(&mut self, rt: &impl Abort, millis: u64, away: &[u8]) {
         for _ in 0..millis {
             self.group.now = self.group.now.saturating_add(1);
@@ -123,7 +123,7 @@ impl Mixed {
         }
     }
 
-    /// Each server knows so many values.
+    /// Each server knows `known` values.
     fn all_stand(&mut self, rt: &impl Abort, known: u32) {
         for number in 1..=3 {
             self.group.stands(rt, number, known, u64::from(known));
@@ -142,7 +142,7 @@ fn a_plain_node_is_told_message_by_message(rt: HostRuntime) {
     mixed.goes_on(&rt, 1_000, &[]);
     mixed.all_stand(&rt, 60);
     ensure(&rt, mixed.packets >= 10, mixed.packets);
-    // It is shown a packet a second by each of the two others.
+    // Each of the two others shows it a packet a second.
     ensure(&rt, mixed.shown <= 4, mixed.shown);
     same(&rt, mixed.several, 0);
 }
@@ -163,7 +163,7 @@ fn a_plain_node_catches_up_and_is_caught_up_with(rt: HostRuntime) {
     }
 }
 
-/// When packets came of node 2, and whether it reads packets at a moment.
+/// When packets of node 2 came, a moment, and whether node 2 reads packets then.
 const READS: &[(&[u64], u64, bool)] = &[
     (&[], 0, false),
     (&[], 9_000, false),
@@ -187,7 +187,7 @@ fn who_sent_no_packet_for_long_is_told_plainly(rt: HostRuntime) {
     }
 }
 
-/// When a packet went to node 2, and whether the next one is due.
+/// When a packet went to node 2, the moment, and whether the next packet is due.
 const SHOWN: &[(Option<u64>, u64, bool)] = &[
     (None, 0, true),
     (Some(0), 999, false),

@@ -1,4 +1,4 @@
-//! A receipt that is not there yet is waited for, and what goes before it is held back for a moment.
+//! A server waits for a receipt that is not there yet, and holds back for a moment what goes before it.
 use crate::comparing::same;
 use crate::group::Group;
 use server::Hold;
@@ -73,7 +73,8 @@ const ALONE: &[(&[u8], u64, &[u8])] = &[
     (POSTS_AND_ASKS_MORE, 6, QUEUED_AND_NONE),
 ];
 
-/// What a client of a server has after so many milliseconds. The client's calls move so many bytes at most.
+/// What a client of a server has after the milliseconds of the row. The client's calls move `piece` bytes at
+/// most.
 fn check_got(
     rt: &impl Abort,
     mut group: Group,
@@ -110,7 +111,7 @@ fn what_goes_before_a_receipt_is_held_back(rt: HostRuntime) {
     }
 }
 
-/// A client whose calls move each number of bytes at most sends slowly and reads slowly.
+/// A client sends and reads slowly, once for each number of bytes that its calls move at most.
 #[test]
 fn a_post_and_its_question_in_pieces(rt: HostRuntime) {
     for piece in 1..POSTS_AND_ASKS.len() {

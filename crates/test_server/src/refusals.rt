@@ -1,9 +1,9 @@
-//! A server with one growth refused: it comes to what it comes to without refusals, or ends for want of
-//! memory; then another one opens over its disk, and comes to it.
+//! A server with one allocation that fails. Its result is the same as without, or it ends for lack of memory.
+//! Then another server opens over its disk, and has that result.
 //!
-//! All is tried twice, since a second program, `tools/gate/refuse-growths`, runs each test once for each
-//! growth of its memory and refuses that one: the first try meets it, the second does not. Alone a test is
-//! refused nothing.
+//! Each test tries everything twice. A second program, `tools/gate/refuse-growths`, runs each test once for
+//! each of its allocations, and makes that one fail: the first try meets it, the second does not. Without
+//! that program no allocation fails.
 use crate::client::Client;
 use crate::comparing::{ensure, same};
 use crate::group::{Boxed, fresh, reopened, turn};
@@ -15,7 +15,7 @@ use std::process::Abort;
 
 const POST: &[u8] = b"POST /_submit/1/1 HTTP/1.1\r\nHost: a\r\nContent-Length: 8\r\n\r\nrelease\n";
 
-/// A packet with a question of node 1 itself, and with no message.
+/// A packet with a question of node 1 itself, and with a datagram that is no message.
 const CAME: &[u8] = &[3, 0, 0, 0, 7, 1, 6, 1, 0, 0, 0, 1, 0, 0, 0, 1, 255];
 
 /// A server takes a client and a packet.
@@ -25,12 +25,12 @@ fn takes(alloc: Global, server: &mut Boxed) -> Result<(), AllocError> {
     server.mail.take_in(CAME, 0)
 }
 
-/// Whether that ended for want of memory. (A disk in memory that finds none has failed.)
+/// Whether the server ended because an allocation failed. (A disk in memory that cannot allocate has failed.)
 fn wants_memory(fault: &ServerFault) -> bool {
     matches!(fault, ServerFault::OutOfMemory | ServerFault::Stopped)
 }
 
-/// It takes them, and goes on for so many milliseconds; or it was refused memory, and does not come so far.
+/// Whether it takes them, and goes on for `millis` milliseconds. If not, an allocation failed.
 fn goes_on(rt: &impl Abort, alloc: Global, server: &mut Boxed, millis: u64) -> bool {
     if takes(alloc, server).is_err() {
         return false;
@@ -44,7 +44,7 @@ fn goes_on(rt: &impl Abort, alloc: Global, server: &mut Boxed, millis: u64) -> b
     true
 }
 
-/// Node 1 of one, over a record that was just made. Where memory was refused it is made once more.
+/// Node 1 of one, over a new record. It is made once more if an allocation failed.
 fn first(rt: &impl Abort, alloc: Global, cluster: Cluster) -> Boxed {
     let me = cluster.node(1).expect(rt, "a node");
     match fresh(alloc, cluster, me) {
@@ -66,7 +66,7 @@ fn steps(rt: HostRuntime) {
     same(&rt, server.served.node.newest(), 1);
 }
 
-/// Room for those that have their last response. Where it was refused it is made once more.
+/// Room for clients that have their last response. It is made once more if an allocation failed.
 fn room(rt: &impl Abort, alloc: Global) -> Partings<Client> {
     let times = Times::new(None, None);
     match Partings::new(alloc, times) {
@@ -75,7 +75,7 @@ fn room(rt: &impl Abort, alloc: Global) -> Partings<Client> {
     }
 }
 
-/// A client without a byte. Where memory was refused it comes once more.
+/// A client that sends nothing. It is made once more if an allocation failed.
 fn silent(rt: &impl Abort, alloc: Global) -> Client {
     match Client::new(alloc, b"", usize::MAX) {
         Ok(client) => client,

@@ -1,5 +1,5 @@
-//! A server that begins: nothing waits and nobody is seated; and how long it rests after a step, by what it
-//! saw.
+//! A server that begins: nothing waits and nobody is seated. How long it rests after a step depends on what
+//! it saw.
 use crate::comparing::{ensure, same};
 use crate::group::{Boxed, fresh};
 use server::Stepped;
@@ -30,7 +30,7 @@ fn alone(rt: &impl Abort, alloc: Global) -> Boxed {
     fresh(alloc, cluster, me).expect(rt, "memory")
 }
 
-/// A step over which datagrams came or none, and requests were answered or none.
+/// A step in which datagrams came or not, and requests were answered or not.
 fn step_of(came: bool, answered: bool) -> Stepped {
     Stepped {
         came,

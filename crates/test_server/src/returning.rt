@@ -1,4 +1,4 @@
-//! A server that begins over a record with values leaves requests until it knows them, for two seconds at
+//! A server that begins over a record with values lets requests wait until it knows them, for two seconds at
 //! most.
 use crate::comparing::same;
 use crate::group::Group;
@@ -21,8 +21,8 @@ const ONE: &[u8] =
 const QUEUED: &[u8] =
     b"HTTP/1.1 202 Accepted\r\nContent-Type: text/plain; charset=utf-8\r\nContent-Length: 7\r\n\r\nqueued\n";
 
-/// Which servers are away once all were ended and begin again, what a client sends the first one, the moment,
-/// and what the client has by then.
+/// Which servers are away after all ended and began again, what a client sends the first one, the moment, and
+/// what the client has by then.
 const ROWS: &[(&[u8], &[u8], u64, &[u8])] = &[
     (&[2, 3], ASKS, 1_999, b""),
     (&[2, 3], ASKS, 2_000, NONE),

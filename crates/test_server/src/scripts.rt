@@ -19,7 +19,7 @@ fn post(rt: &impl Abort, alloc: Global, editor: u8, number: u8) -> String {
     ).expect(rt, "memory")
 }
 
-/// So many clients at a node, each of which posts a release, in pieces of so many bytes.
+/// Clients come to a node, `count` of them. Each posts a release, in pieces of `piece` bytes.
 fn posts(rt: &impl Abort, group: &mut Group, node: u8, count: u8, piece: usize) {
     for number in 1..=count {
         let sends = post(rt, group.alloc, node, number);

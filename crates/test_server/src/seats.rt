@@ -1,4 +1,4 @@
-//! Seats: who goes for the 65th client, and how long a connection stays.
+//! Seats: who makes room for the 65th client, and how long a connection stays.
 use crate::client::Client;
 use crate::comparing::{ensure, same};
 use crate::group::{Group, is_seated};
@@ -9,8 +9,8 @@ use std::process::Abort;
 
 const GET: &[u8] = b"GET /_newest HTTP/1.1\r\nHost: a\r\n\r\n";
 
-/// Since bytes moved and since the request began, where one did; whether a connection is closed then, without
-/// a limit for a request and with one of two seconds.
+/// How many milliseconds ago bytes moved, and how many ago the request began, if one did; whether a
+/// connection is closed then, without a limit for a request and with one of two seconds.
 const STAYS: &[(u64, Option<u64>, bool, bool)] = &[
     (0, None, false, false),
     (4_999, None, false, false),
@@ -55,8 +55,7 @@ fn was_silent(gone: Option<Client>) -> Option<bool> {
     Some(was)
 }
 
-/// Sixty-four clients: each comes a millisecond after the one before it, and the first so many send a
-/// request.
+/// Sixty-four clients: each comes a millisecond after the one before it. The first `asking` send a request.
 fn full(rt: &impl Abort, alloc: Global, asking: u64) -> Seats<Client> {
     let mut seats = Seats::new(alloc, Times::new(None, None));
     for k in 0..64 {

@@ -1,4 +1,4 @@
-//! What is told of records.
+//! What is reported of records.
 
 use crate::comparing::{ensure, same};
 use durable::RecordFault;
@@ -7,7 +7,7 @@ use site_disk::{Disk, MemDisk};
 use std::alloc::Global;
 use std::process::Abort;
 
-/// A file, and what is told of it, or why it is refused.
+/// A file, and what is reported of it, or why it is refused.
 type Row = (&'static [u8], Result<&'static str, RecordFault>);
 
 const ROWS: &[Row] = &[
@@ -68,7 +68,7 @@ fn disk_of(rt: &impl Abort, alloc: Global, bytes: &[u8]) -> MemDisk {
     disk
 }
 
-/// What is told of the record on it.
+/// What is reported of the record on that disk.
 fn told(rt: &impl Abort, alloc: Global, disk: MemDisk) -> Result<String, RecordFault> {
     match View::of(alloc, disk) {
         Ok(view) => Ok(lines_of(alloc, &view).expect(rt, "memory")),

@@ -12,7 +12,7 @@ use site_ids::{Cluster, NodeId, Ticket, Value};
 use std::alloc::Global;
 use std::process::Abort;
 
-/// What is called: of a telling to whom it goes, and from which instance on.
+/// What is called. A telling has to whom it goes, and from which instance on.
 #[derive(Clone, Copy, Debug, PartialEq, Eq, Drop)]
 pub(crate) enum Call {
     Widen,
@@ -35,12 +35,12 @@ const THIRD_ASKS: &[u8] = &[1, 6, 3, 0, 0, 0, 1];
 /// A prepare of node 2 at the first instance.
 const PREPARE: &[u8] = &[1, 1, 2, 0, 0, 0, 1, 0, 0, 0, 1, 2];
 
-/// One of node 3 there, and a higher one of node 2.
+/// A prepare of node 3 there, and a higher one of node 2.
 const THIRD_PREPARE: &[u8] = &[1, 1, 3, 0, 0, 0, 1, 0, 0, 0, 1, 3];
 
 const HIGHER_PREPARE: &[u8] = &[1, 1, 2, 0, 0, 0, 1, 0, 0, 0, 2, 2];
 
-/// What two nodes say to a prepare of node 1 there: node 2 refuses it, and node 3 promises.
+/// What two nodes answer to a prepare of node 1 there: node 2 refuses it, and node 3 promises.
 const REFUSAL: &[u8] = &[1, 5, 2, 0, 0, 0, 1, 0, 0, 0, 1, 1, 0, 0, 0, 1, 2];
 
 const PROMISE: &[u8] = &[1, 2, 3, 0, 0, 0, 1, 0, 0, 0, 1, 1, 0];
@@ -84,11 +84,11 @@ const IN_VAIN: &[Step] = &[
     (105, false, true, Call::Tick, &[REFUSAL]),
     (106, false, true, Call::Widen, &[PROMISE]),
     (304, false, true, Call::Ask, &[]),
-    // The one before was in vain: it waits ten patiences longer.
+    // The tick before was in vain: the server waits ten patiences longer.
     (305, false, true, Call::Tick, &[REFUSAL, PROMISE]),
     (800, false, true, Call::Ask, &[]),
     (1404, false, true, Call::Ask, &[]),
-    // So was this one; and then node 3 alone answers.
+    // So was this one. Then only node 3 answers.
     (1405, false, true, Call::Tick, &[PROMISE, PROMISE]),
     (1600, false, true, Call::Ask, &[]),
     (2400, false, true, Call::Ask, &[]),
@@ -139,7 +139,7 @@ const KNOWN_BEHIND: &[Step] = &[
 /// Values become known, while nobody tries one and while somebody does, and one is submitted among them.
 const NEWS: &[Step] = &[
     (0, false, true, Call::Ask, &[FIRST_KNOWN, THIRD_ASKS]),
-    // Something came that was no question: who submits now waits for its patience.
+    // Something came that was no question: a value that is submitted now waits for the patience.
     (1, true, false, Call::Tell(3, 1), &[]),
     (2, false, false, Call::Widen, &[]),
     (3, false, true, Call::Ask, &[]),
@@ -176,11 +176,11 @@ const YIELDS: &[Step] = &[
     (7, false, true, Call::Widen, &[]),
     // It waited in vain, and does so once more.
     (8, false, true, Call::Nothing, &[]),
-    // The patience is what it would be.
+    // The patience is the same as without yielding.
     (100, false, true, Call::Ask, &[]),
     (101, false, true, Call::Tick, &[FIRST_KNOWN]),
     (102, false, true, Call::Ask, &[]),
-    // Node 2 tried last: this one comes next.
+    // Node 2 tried last: this node comes next.
     (103, false, true, Call::Widen, &[]),
 ];
 
@@ -190,13 +190,14 @@ const TURNS: &[Step] = &[
     (1, false, true, Call::Nothing, &[HIGHER_PREPARE]),
     (2, false, true, Call::Nothing, &[FIRST_KNOWN]),
     (3, false, true, Call::Nothing, &[]),
-    // Node 2's attempt stood for a millisecond: so long the next one is waited for, and one more.
+    // Node 2's attempt stood for a millisecond. The server waits as long for the next one, and a millisecond
+    // more.
     (5, false, true, Call::Nothing, &[]),
     (6, false, true, Call::Widen, &[]),
     (7, false, true, Call::Widen, &[]),
 ];
 
-/// So does it here, as a value is submitted that nobody tries: that waits too.
+/// Node 3 comes next here, too. A value is submitted that nobody tries: that waits too.
 const SUBMITTED: &[Step] = &[
     (0, false, true, Call::Ask, &[THIRD_PREPARE]),
     (1, false, true, Call::Nothing, &[HIGHER_PREPARE]),
@@ -240,7 +241,7 @@ pub(crate) fn called(last: &LastCall) -> Call {
     }
 }
 
-/// A node over a record that was just made. None where memory was refused.
+/// A node over a new record. `None` if an allocation failed.
 fn fresh(alloc: Global, cluster: Cluster, me: NodeId) -> Option<Box<Node<MemDisk>>>
     requires { IsNode cluster me }
 {
@@ -266,7 +267,7 @@ fn begun(rt: &impl Abort, alloc: Global) -> Paced {
     }
 }
 
-/// These datagrams come: so many.
+/// These datagrams come. Returns how many there are.
 fn come(rt: &impl Abort, link: &mut MemLink, heard: &[&[u8]]) -> u32 {
     for datagram in heard {
         link.push(datagram).expect(rt, "a place");
@@ -285,7 +286,7 @@ impl Paced {
         same(rt, self.node.submit(&value), Ok(Submitted::Queued));
     }
 
-    /// These datagrams and then that call; and what was delivered is heard.
+    /// The desk takes these datagrams and then makes that call. The pace hears what was delivered.
     fn drive(&mut self, rt: &impl Abort, heard: &[&[u8]], last: LastCall) {
         let turns = come(rt, &mut self.link, heard);
         let driven = self

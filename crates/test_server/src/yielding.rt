@@ -24,7 +24,7 @@ type Row = (
 );
 
 const YIELDS: &[Row] = &[
-    // Nobody tried, or itself alone.
+    // Nobody tried, or only the server itself.
     (&[], 0, Some(100), None, 2, 0, false, false),
     (&[2], 2, None, None, 2, 2, false, false),
     (&[2], 2, Some(100), None, 2, 0, false, false),
@@ -35,7 +35,7 @@ const YIELDS: &[Row] = &[
     // Its own attempt stands, and another one tried.
     (&[1, 2], 2, None, None, 2, 2, true, true),
     (&[1, 2], 2, None, Some(70), 2, 2, true, false),
-    // None stands, and it is the next one.
+    // No attempt stands, and it is the next one.
     (&[1, 2, 3], 1, Some(100), None, 2, 0, false, false),
     (&[1, 3], 1, Some(100), None, 3, 0, false, false),
     (&[2, 3], 3, Some(100), Some(60), 1, 0, false, false),
@@ -103,8 +103,8 @@ fn a_stretch_of_yielding_ends(rt: HostRuntime) {
     }
 }
 
-/// Whose attempts stood, 0 for nobody's, since when, and since when none did, and whose stands now; who tried
-/// then, and who last, where node 4 did before; since when attempts stand and since when none does, and how
+/// Whose attempts stood, 0 for nobody's, since when, since when none did, and whose attempt stands now. Then
+/// who tried, and who last, if node 4 did before; since when attempts stand, since when none does, and how
 /// long those of the node before stood.
 type Noted = (
     u8,
@@ -157,8 +157,8 @@ fn whose_attempt_stands_is_noted(rt: HostRuntime) {
     }
 }
 
-/// Since when it yields, whether it waits and yields; who tried then, where nodes 2 and 5 did before; and
-/// since when it yields then.
+/// Since when it yields, whether it waits and yields; who tried then, if nodes 2 and 5 did before; and since
+/// when it yields then.
 const AFTER: &[(Option<u64>, bool, bool, &[u8], Option<u64>)] = &[
     (None, true, true, &[2, 5], Some(100)),
     (Some(60), true, true, &[2, 5], Some(60)),

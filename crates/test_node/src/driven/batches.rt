@@ -1,5 +1,5 @@
-//! Batches: what one takes and posts, the calls that a burst makes of the device, and what one that fails
-//! leaves: nothing is posted, and all of the batch is found again or none.
+//! Batches: what one takes and posts, the calls that a burst makes of the device, and what a batch that fails
+//! leaves. Nothing is posted then, and all of the batch is found again or none.
 use crate::driven::driven_node::reopened;
 use crate::driven::steps::{Last, Step, act_all, behind, play_each};
 use crate::failures::FAILURES;
@@ -11,7 +11,8 @@ const PREPARE: &str = "010102000000010000000102";
 
 const PROPOSAL: &str = "0103020000000100000001020000000107";
 
-/// All that comes: a prepare of node 2, its proposal, votes of a majority, a question, no message.
+/// All that comes: a prepare of node 2, its proposal, votes of a majority, a question, and bytes that are no
+/// message.
 const SIX: &[&str] = &[
     PREPARE,
     PROPOSAL,
@@ -21,8 +22,8 @@ const SIX: &[&str] = &[
     "ff",
 ];
 
-/// A promise to node 2, a vote for all, and the value to the asker. What the last call posts for all stands
-/// last: a tick where a value waits, and else a question about the next instance.
+/// A promise to node 2, a vote for all, and the value to the asker. What the last call posts for all comes
+/// last: a tick if a value waits, and otherwise a question about the next instance.
 const POSTED: &[&[&[Step]]] = &[
     &[&[
         Step::Takes(&[], Last::TickOrAsk, Ok(0)),
@@ -59,13 +60,13 @@ const BURST: &[&str] = &[
     "0103020000000300000001020000000107",
 ];
 
-/// A question about an instance that isn't known, a refused value and no message: nothing goes on record for
-/// them.
+/// A question about an instance that isn't known, a vote, and bytes that are no message: nothing goes on
+/// record for them.
 const IDLE: &[&str] = &["01060300000001", "0104020000000900000001020000000107", "ff"];
 
 const WAITING: &[Step] = &[Step::Submits(1)];
 
-/// At a node where a value waits: so many calls of the device are enough.
+/// A value waits at the node. The armed calls of the device are enough.
 const ENOUGH: &[&[&[Step]]] = &[
     &[
         WAITING,

@@ -12,12 +12,12 @@ const MALFORMED: &[&str] = &[
     // The prepare 010102000000010000000102 of node 2 without its last byte, and with a byte more.
     "0101020000000100000001",
     "01010200000001000000010200",
-    // It in another version, and of a node that is none of the three.
+    // The same prepare in another version, and of a node that is not one of the three.
     "020102000000010000000102",
     "010104000000010000000102",
 ];
 
-/// The prepare is taken, and no vote is told.
+/// The prepare is taken, and the promise reports no vote.
 const NOTHING_CHANGED: &[Step] = &[
     Step::Turns(99, Last::Nothing, 7),
     Step::Many(0),
@@ -28,7 +28,7 @@ const NOTHING_CHANGED: &[Step] = &[
     Step::Sent(0, 2, "01020100000001000000010200"),
 ];
 
-/// Each comes alone, and then all at once.
+/// Each comes by itself, and then all at once.
 fn change_nothing(rt: &impl Abort, server: &mut DrivenNode<MemLink>) {
     for &text in MALFORMED {
         let alone = [Step::Hears(text), Step::Turns(1, Last::Nothing, 1)];
@@ -45,15 +45,15 @@ fn datagrams_of_no_message_are_counted_and_change_nothing(rt: HostRuntime) {
     change_nothing(&rt, &mut DrivenNode::over_queues(&rt, rt.alloc(), 3));
 }
 
-/// All of a promise but its vote's value, of 32,768 bytes.
+/// All of a promise except its vote's value, of 32,768 bytes.
 pub(crate) const PROMISE_OF_2: &str = "01020200000001000000020101000000010200008000";
 
 const PROMISE_OF_3: &str = "01020300000001000000020101000000010200008000";
 
 const PROPOSAL: &str = "01030100000001000000020100008000";
 
-/// In round 2 of node 1 two promises tell of the same vote for the greatest value. With a slice of the
-/// longest datagram's length, longer ones would be cut to it.
+/// In round 2 of node 1 two promises report the same vote for the longest value. If the slice for a receive
+/// had only the longest datagram's length, longer ones would be cut to it.
 const LONGEST: &[Step] = &[
     Step::Submits(1),
     Step::Drives(0, 0),

@@ -1,4 +1,4 @@
-//! Node 1 with its link and a desk, boxed: a box is let go of in one step.
+//! Node 1 with its link and a desk, in a box: a box is dropped in one step.
 use crate::comparing::{ensure, same};
 use crate::nodes::{again, boxed, fresh, submit};
 use crate::samples::Text;
@@ -16,7 +16,7 @@ pub(crate) struct DrivenNode<L> {
     pub desk: Box<Desk>,
 }
 
-/// It passed over so many malformed datagrams, and so many failed calls.
+/// A drive ignored `malformed` malformed datagrams, and `failed` failed calls.
 pub(crate) fn passes(
     rt: &impl Abort,
     driven: Result<Driven, NodeFault>,
@@ -26,7 +26,7 @@ pub(crate) fn passes(
     same(rt, driven, Ok(Driven { malformed, failed }));
 }
 
-/// Bytes that are given in hexadecimal. Where memory was refused they are read once more.
+/// Bytes that are given in hexadecimal. They are read once more if an allocation failed.
 pub(crate) fn bytes(rt: &impl Abort, alloc: Global, text: &str) -> Vec<u8> {
     match hex::decode(alloc, text) {
         Ok(bytes) => bytes,
@@ -34,7 +34,7 @@ pub(crate) fn bytes(rt: &impl Abort, alloc: Global, text: &str) -> Vec<u8> {
     }
 }
 
-/// Those, and then bytes 7 up to that length.
+/// The bytes of `head`, and then bytes 7 up to that length.
 pub(crate) fn long(rt: &impl Abort, alloc: Global, head: &str, length: usize) -> Vec<u8> {
     let mut datagram = bytes(rt, alloc, head);
     datagram.resize(length, 7).expect(rt, "a datagram");
@@ -49,7 +49,7 @@ fn desk(rt: &impl Abort, alloc: Global) -> Desk {
 }
 
 impl<L: Link + Drop> DrivenNode<L> {
-    /// Node 1 of so many, over a record that was just made.
+    /// Node 1 of `size` nodes, over a new record.
     pub(crate) fn new(rt: &impl Abort, alloc: Global, size: u8, link: L) -> Box<DrivenNode<L>> {
         let node = fresh(rt, alloc, size);
         let desk = boxed(rt, alloc, desk(rt, alloc));
@@ -75,19 +75,19 @@ impl<L: Link + Drop> DrivenNode<L> {
             .drive_with(&mut self.node, &mut self.link, turns, last)
     }
 
-    /// One batch over these datagrams: how many were malformed.
+    /// Takes these datagrams as one batch. Returns how many were malformed.
     pub(crate) fn batch(&mut self, came: &[Vec<u8>], last: LastCall) -> Result<usize, NodeFault> {
         self.desk.take_batch(&mut self.node, came, last)
     }
 
-    /// What is posted after a batch, whatever it came to.
+    /// What is posted after a batch, whatever that returned.
     pub(crate) fn letters(&self) -> Result<Vec<Letter>, AllocError> {
         let mut letters = Vec::new(self.alloc);
         self.desk.post(&mut letters)?;
         Ok(letters)
     }
 
-    /// A release, by the number of its ticket.
+    /// Submits a release, by the number of its ticket.
     pub(crate) fn submit(&mut self, rt: &impl Abort, number: u64) {
         let text = Text::Command(number, "release\n");
         let submitted = submit(rt, self.alloc, &mut self.node, text);
@@ -105,7 +105,7 @@ impl DrivenNode<MemLink> {
         DrivenNode::new(rt, alloc, size, MemLink::new(alloc))
     }
 
-    /// A datagram waits. Where memory was refused it is queued once more.
+    /// Queues a datagram, once more if an allocation failed.
     pub(crate) fn queue(&mut self, rt: &impl Abort, datagram: &[u8]) {
         if self.link.push(datagram).is_err() {
             self.link.push(datagram).expect(rt, "a place");

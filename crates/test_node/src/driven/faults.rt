@@ -23,7 +23,7 @@ const PUT_FAILS: &[Step] = &[
     Step::Stopped(true),
 ];
 
-/// It is the tick's, after all turns.
+/// The device's first call is the tick's, after all turns.
 const TICK_FAILS: &[Step] = &[
     Step::Arm(0),
     Step::Ends(9, Some(NodeFault::Device)),
@@ -35,7 +35,7 @@ const TICK_FAILS: &[Step] = &[
     Step::Stopped(true),
 ];
 
-/// Another value is chosen there. The node isn't stopped: it answers again, and its tick tells all.
+/// Another value is chosen there. The node isn't stopped: it answers again, and its tick sends to all.
 const CONFLICT: &[Step] = &[
     Step::Hears("01070200000001000000010a"),
     Step::Hears("01060300000001"),

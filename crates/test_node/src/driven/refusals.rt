@@ -1,11 +1,12 @@
-//! A drive with one growth refused, turn by turn and as one batch: it ends as ever, or by the fault that
-//! memory was wanted, or by that of the device where the disk in memory found none, and then the node is
-//! opened again. Where the link found none it counts a failure. Either way what was heard may be lost, as a
-//! datagram may; so it comes once more, and then the node is where it is without refusals.
+//! A drive with one allocation that fails, turn by turn and as one batch. It ends as always, or with the
+//! fault that an allocation failed. If that was one of the disk in memory, it ends with the fault of the
+//! device, and then the node is opened again. If it was one of the link, that counts a failure. Either way
+//! what was heard may be lost, as a datagram may. So it comes once more, and then the node is where it is
+//! without the failure.
 //!
-//! All is tried twice, since a second program, `tools/gate/refuse-growths`, runs each test once for each
-//! growth of its memory and refuses that one: the first try meets it, the second does not. Alone a test is
-//! refused nothing.
+//! Each test tries everything twice. A second program, `tools/gate/refuse-growths`, runs each test once for
+//! each of its allocations, and makes that one fail: the first try meets it, the second does not. Without
+//! that program no allocation fails.
 use crate::comparing::{ensure, same};
 use crate::driven::driven_node::{DrivenNode, bytes, reopened};
 use node::NodeFault;
@@ -13,7 +14,8 @@ use site_drive::{LastCall, MemLink};
 use std::alloc::Global;
 use std::process::Abort;
 
-/// A prepare and a proposal of node 2 at instance 2, a release chosen at instance 1, no message, a question.
+/// A prepare and a proposal of node 2 at instance 2, a release chosen at instance 1, bytes that are no
+/// message, a question.
 const HEARD: &[&str] = &[
     "010102000000020000000102",
     "0103020000000200000001020000000107",
@@ -22,7 +24,7 @@ const HEARD: &[&str] = &[
     "01060300000001",
 ];
 
-/// What the question is answered with.
+/// The answer to the question.
 const ANSWER: &str = "010701000000010000001400000001000000000000000172656c656173650a";
 
 fn heard(rt: &impl Abort, alloc: Global) -> Result<Vec<Vec<u8>>, NodeFault> {
@@ -35,7 +37,7 @@ fn heard(rt: &impl Abort, alloc: Global) -> Result<Vec<Vec<u8>>, NodeFault> {
     Ok(came)
 }
 
-/// What a batch that hears all of it came to: it ended as without a refusal.
+/// The result of a batch that hears all of it: it ended as without a failed allocation.
 fn batch(rt: &impl Abort, server: &mut DrivenNode<MemLink>) -> Result<bool, NodeFault> {
     let came = heard(rt, server.alloc)?;
     let malformed = server.batch(came.as_slice(), LastCall::TickOrAsk)?;
@@ -49,8 +51,8 @@ fn hears(rt: &impl Abort, server: &mut DrivenNode<MemLink>, text: &str) {
     server.queue(rt, datagram.as_slice());
 }
 
-/// What a drive that hears all of it came to: whether it ended as without a refusal. Turns are left for what
-/// an earlier drive did not take.
+/// The result of a drive that hears all of it: whether it ended as without a failed allocation. Turns are
+/// left for what an earlier drive did not take.
 fn turns(rt: &impl Abort, server: &mut DrivenNode<MemLink>) -> Result<bool, NodeFault> {
     for &text in HEARD {
         hears(rt, server, text);
@@ -72,7 +74,7 @@ fn turn(
     }
 }
 
-/// Why a call is refused where memory was.
+/// Why a call fails if an allocation failed.
 fn cause(server: &DrivenNode<MemLink>) -> NodeFault {
     if server.node.is_stopped() {
         NodeFault::Device
@@ -91,7 +93,7 @@ fn drives(rt: &impl Abort, server: &mut DrivenNode<MemLink>, at_once: bool) -> b
     }
 }
 
-/// One that is stopped is opened again.
+/// A node that is stopped is opened again.
 fn going(rt: &impl Abort, server: Box<DrivenNode<MemLink>>) -> Box<DrivenNode<MemLink>> {
     if server.node.is_stopped() {
         reopened(rt, server, None)
@@ -100,7 +102,7 @@ fn going(rt: &impl Abort, server: Box<DrivenNode<MemLink>>) -> Box<DrivenNode<Me
     }
 }
 
-/// It is where it is without refusals.
+/// The node is where it is without a failed allocation.
 fn check_end(rt: &impl Abort, server: &DrivenNode<MemLink>, at_once: bool) {
     same(rt, (server.node.known(), server.node.newest()), (1, 1));
     if !at_once {
@@ -111,7 +113,7 @@ fn check_end(rt: &impl Abort, server: &DrivenNode<MemLink>, at_once: bool) {
     }
 }
 
-/// Where a growth is refused, the second drive has all that the first one may have lost.
+/// If an allocation fails, the second drive has all that the first one may have lost.
 fn driven(rt: &impl Abort, alloc: Global, at_once: bool) {
     let mut server = DrivenNode::over_queues(rt, alloc, 3);
     let whole = drives(rt, &mut server, at_once);

@@ -27,15 +27,15 @@ pub(crate) enum Step {
     Submits(u64),
     /// A datagram waits at its link.
     Hears(&'static str),
-    /// One with that beginning, and then bytes 7 up to a length.
+    /// A datagram with that beginning, and then bytes 7 up to a length.
     HearsLong(&'static str, usize),
-    /// Its device fails after so many calls.
+    /// After how many calls its device fails.
     Arm(u32),
-    /// A drive of so many turns passes over so many malformed datagrams.
+    /// A drive: how many turns it has, and how many malformed datagrams it ignores.
     Drives(u32, u32),
-    /// So do turns on its desk, with a last call.
+    /// The same for turns on its desk, with a last call.
     Turns(u32, Last, u32),
-    /// A drive of so many turns ends with that fault, or without one.
+    /// A drive: how many turns it has, and the fault with which it ends, if any.
     Ends(u32, Option<NodeFault>),
     /// These are a batch, with a last call: how many are malformed, or the fault.
     Takes(&'static [&'static str], Last, Result<usize, NodeFault>),
@@ -43,23 +43,23 @@ pub(crate) enum Step {
     Sent(usize, u8, &'static str),
     /// It has that beginning, and then bytes 7 up to a length.
     SentLong(usize, u8, &'static str, usize),
-    /// The datagrams sent from a place on, and no more after them, are one for all nodes, in order.
+    /// From a place on this datagram was sent to all nodes, in order, and nothing after that.
     SentToAll(usize, &'static str),
-    /// So many were sent.
+    /// How many datagrams were sent.
     Many(usize),
-    /// So many receives were tried.
+    /// How many receives were tried.
     Tried(u64),
     /// What is posted after a batch: to whom, 0 for all.
     Posts(&'static [(u8, &'static str)]),
-    /// So many letters are.
+    /// How many letters are posted.
     PostsMany(usize),
     /// How many messages of the last turns were of attempts, how many say that somebody does something, and
-    /// for which instance node 3 asked; 0 where it did not.
+    /// for which instance node 3 asked; 0 if it did not.
     Delivered(u32, u32, u32),
     /// Whether it has votes at the first three instances on record.
     Votes(bool),
     Stopped(bool),
-    /// So many values are known.
+    /// How many values are known.
     Knows(u32),
     /// Whether it wants a tick.
     Wants(bool),
@@ -263,7 +263,7 @@ pub(crate) fn play_each(rt: &impl Abort, alloc: Global, tables: &[&[&[Step]]]) {
     }
 }
 
-/// Steps of a fresh node of so many.
+/// Steps of a fresh node of a group of `size`.
 pub(crate) fn play(rt: &impl Abort, alloc: Global, size: u8, steps: &[Step]) {
     act_all(rt, &mut DrivenNode::over_queues(rt, alloc, size), steps);
 }

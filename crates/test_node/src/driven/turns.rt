@@ -1,5 +1,5 @@
-//! What node 1 of three sends for what it hears, datagram by datagram; turns alone beside `drive`, and the
-//! other calls after turns.
+//! What node 1 of three sends for what it hears, datagram by datagram: by turns without a last call, by
+//! `drive`, and with the other calls after turns.
 use crate::driven::steps::{Last, Step, play, play_each};
 
 const QUESTION: &str = "01060100000001";
@@ -20,14 +20,14 @@ const SIX: &[Step] = &[
 ];
 
 const THREE_MORE: &[Step] = &[
-    // The vote that makes a majority, the question again, no message.
+    // The vote that makes a majority, the question again, and bytes that are no message.
     Step::Hears("0104030000000100000001020000000107"),
     Step::Hears("01060300000001"),
     Step::Hears("ff"),
 ];
 
 const SENT_FOR_SIX: &[Step] = &[
-    // A promise, a vote to all, a promise that tells the vote, a refusal.
+    // A promise, a vote to all, a promise that reports the vote, a refusal.
     Step::Sent(0, 2, "01020100000001000000010200"),
     Step::Sent(1, 1, "0104010000000100000001020000000107"),
     Step::Sent(2, 2, "0104010000000100000001020000000107"),
@@ -36,11 +36,11 @@ const SENT_FOR_SIX: &[Step] = &[
     Step::Sent(5, 2, "0105010000000100000001020000000203"),
 ];
 
-/// The value to who asked.
+/// The value to the node that asked.
 const SENT_FOR_THREE: &[Step] = &[Step::Sent(6, 3, "010701000000010000000107")];
 
-/// Turns alone, and then a drive of none. The last call is a tick where the instance was reached and isn't
-/// known, and else a question about the next one.
+/// Turns without a last call, and then a drive of no turns. Its last call is a tick if the instance was
+/// reached and isn't known, and otherwise a question about the next one.
 const EXCHANGES: &[&[&[Step]]] = &[
     &[&[
         Step::Turns(0, Last::Nothing, 0),
@@ -93,8 +93,8 @@ fn a_drive_is_an_exchange_and_a_last_call(rt: HostRuntime) {
     play_each(&rt, rt.alloc(), DRIVES);
 }
 
-/// After turns by which a tick is wanted: a question, then no widening, and one where a value waits; all on
-/// one desk.
+/// After turns that make a tick wanted: a question, then no widening, and a widening if a value waits. All
+/// are on one desk.
 const WITHOUT_A_TICK: &[&[Step]] = &[
     SIX,
     &[Step::Turns(6, Last::Ask, 0)],
@@ -116,7 +116,7 @@ fn questions_and_widenings_need_no_tick(rt: HostRuntime) {
     play_each(&rt, rt.alloc(), &[WITHOUT_A_TICK]);
 }
 
-/// Node 3 asks for what it is told after the answer; whatever else comes is no question: four messages of
+/// Node 3 asks for what it is told after the answer. Whatever else comes is no question: four messages of
 /// attempts, and two votes.
 const TOLD: &[Step] = &[
     Step::Turns(1, Last::Nothing, 0),

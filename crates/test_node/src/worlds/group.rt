@@ -1,4 +1,4 @@
-//! A world, lent to the rows: a row that owned one would have to be proved to let it go at each of its ends.
+//! A world, lent to the rows: a row that owned one would have to be proved to drop it at each of its ends.
 ghost use Rattle.std.specs.Prelude.{◌≤◌};
 
 use crate::comparing::{ensure, same};
@@ -10,7 +10,7 @@ use std::alloc::Global;
 use std::process::Abort;
 use world::{AskFault, Event, NodeState, World, WorldFault};
 
-/// A world, how many of its messages were settled, and how often it wanted memory.
+/// A world, how many of its messages were settled, and how often an allocation failed.
 #[derive(Drop)]
 pub(crate) struct Group {
     pub alloc: Global,
@@ -22,7 +22,7 @@ pub(crate) struct Group {
 /// What a node shows: its state, how many values it knows, its newest release.
 pub(crate) type Shown = (NodeState, u32, u64);
 
-/// A world that is refused memory is made once more.
+/// A world. It is made once more if an allocation failed.
 fn made(rt: &impl Abort, alloc: Global, cluster: Cluster) -> World {
     match World::new(alloc, cluster) {
         Ok(world) => world,
@@ -36,7 +36,7 @@ fn written(alloc: Global, number: u64, text: &str) -> Option<Value> {
     Value::from_bytes(bytes).ok()
 }
 
-/// The value of a command of editor 1. One that is refused memory is written once more.
+/// The value of a command of editor 1. It is written once more if an allocation failed.
 pub(crate) fn value(rt: &impl Abort, alloc: Global, number: u64, text: &str) -> Value {
     match written(alloc, number, text) {
         Some(value) => value,
@@ -44,12 +44,12 @@ pub(crate) fn value(rt: &impl Abort, alloc: Global, number: u64, text: &str) -> 
     }
 }
 
-/// A run ended so.
+/// A run ended as wanted.
 pub(crate) fn runs(rt: &impl Abort, ended: Result<(), WorldFault>, wanted: Result<(), WorldFault>) {
     same(rt, ended, wanted);
 }
 
-/// One that is refused memory is pushed once more.
+/// Pushes an event, once more if an allocation failed.
 pub(crate) fn push(rt: &impl Abort, events: &mut Vec<Event>, event: Event) {
     if let Err(refused) = events.push(event) {
         ensure(rt, events.push(refused.value).is_ok(), 2);
@@ -57,7 +57,7 @@ pub(crate) fn push(rt: &impl Abort, events: &mut Vec<Event>, event: Event) {
 }
 
 impl Group {
-    /// So many nodes, opened over empty records.
+    /// A group of `size` nodes, opened over empty records.
     pub(crate) fn new(rt: &impl Abort, alloc: Global, size: u8) -> Group {
         let cluster = Cluster::new(size).expect(rt, "a cluster");
         Group {
@@ -80,7 +80,7 @@ impl Group {
         self.world.run(events)
     }
 
-    /// A run that goes on, from the count that it gave, where it wanted memory once.
+    /// A run. If an allocation failed once, it goes on from the count that it gave.
     pub(crate) fn run_on(&mut self, rt: &impl Abort, events: &[Event]) -> Result<(), WorldFault> {
         let ended = self.run(events);
         let Err(WorldFault::OutOfMemory(taken)) = ended else {
@@ -127,7 +127,7 @@ impl Group {
         )
     }
 
-    /// A question that is refused memory is put once more.
+    /// A node's answer. The question is put once more if an allocation failed.
     pub(crate) fn answer(
         &self,
         rt: &impl Abort,

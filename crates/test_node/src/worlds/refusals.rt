@@ -1,10 +1,10 @@
-//! Runs with one growth refused: a run goes on from the count that it gave, and every answer is that of the
-//! schedule without refusals. A disk in memory that finds none stops its node, which is opened again; then
-//! the schedule comes once more. No line of `sitesim` refuses memory.
+//! Runs with one allocation that fails. A run goes on from the count that it gave, and every answer is that
+//! of the schedule without the failure. If an allocation of a disk in memory fails, its node stops and is
+//! opened again. Then the schedule comes once more. No line of `sitesim` makes an allocation fail.
 //!
-//! All is tried twice, since a second program, `tools/gate/refuse-growths`, runs each test once for each
-//! growth of its memory and refuses that one: the first try meets it, the second does not. Alone a test is
-//! refused nothing.
+//! Each test tries everything twice. A second program, `tools/gate/refuse-growths`, runs each test once for
+//! each of its allocations, and makes that one fail: the first try meets it, the second does not. Without
+//! that program no allocation fails.
 use crate::comparing::{ensure, is_page, same};
 use crate::worlds::group::{Group, runs};
 use crate::worlds::step::Step;
@@ -41,8 +41,8 @@ const CRASHES: &[Step] = &[
     Step::Settle,
 ];
 
-/// A call of node 2's vote fails, and the node ends so and is opened again. Then node 3 asks for promises:
-/// the release comes first, or the route.
+/// A call of node 2's vote fails. The node ends in a way of `VOTE_ENDS`, and is opened again. Then node 3
+/// asks for promises: the release comes first, or the route.
 const VOTE_FAILED: &[Step] = &[
     Step::Submit(1, 1, "release\n"),
     Step::Submit(3, 2, "put route / t d\n"),
@@ -90,7 +90,7 @@ fn which(answer: &Result<Answer, AskFault>, pages: &[Page]) -> Option<usize> {
     None
 }
 
-/// Which of these pages the answer is, where the node has the release.
+/// Which of these pages the answer is, if the node has the release.
 fn shown(rt: &impl Abort, answer: &Result<Answer, AskFault>, pages: &[Page]) -> Option<usize> {
     if matches!(answer, Err(AskFault::NoSuchRelease)) {
         return None;
@@ -100,7 +100,7 @@ fn shown(rt: &impl Abort, answer: &Result<Answer, AskFault>, pages: &[Page]) -> 
     shown
 }
 
-/// Which of these pages a node shows for release 1, where it has that.
+/// Which of these pages a node shows for release 1, if it has that.
 fn page_at(rt: &impl Abort, group: &Group, number: u8, pages: &[Page]) -> Option<usize> {
     let answer = group.answer(rt, number, 1, "/");
     shown(rt, &answer, pages)
@@ -147,7 +147,7 @@ fn open_stopped(rt: &impl Abort, group: &mut Group) {
     }
 }
 
-/// The schedule, and once more with all messages where a node lacks the release then.
+/// The schedule, and once more with all messages if a node lacks the release then.
 fn goes(rt: &impl Abort, group: &mut Group, parts: &[&[Step]], pages: &[Page]) {
     act_parts(rt, group, parts);
     if !all_answer(rt, group, pages) {

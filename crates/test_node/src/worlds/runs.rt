@@ -15,7 +15,7 @@ fn stranger(rt: &impl Abort) -> NodeId {
     larger.node(4).expect(rt, "its node 4")
 }
 
-/// So many messages were handed out.
+/// The world handed out `count` messages.
 fn has_sent(rt: &impl Abort, group: &Group, count: usize) {
     same(rt, group.sent_count(), count);
 }
@@ -36,7 +36,7 @@ fn unsent(rt: &impl Abort, group: &mut Group) {
     has_sent(rt, group, 2);
 }
 
-/// The second of three events is one of a node that isn't there.
+/// The second of three events is one of a node that does not exist.
 fn to_nowhere(rt: &impl Abort, group: &Group) -> Vec<Event> {
     let mut events = group.events(rt, &[Step::Deliver(1, 1)]);
     let node = stranger(rt);
@@ -46,7 +46,7 @@ fn to_nowhere(rt: &impl Abort, group: &Group) -> Vec<Event> {
     events
 }
 
-/// One is taken.
+/// One event is taken.
 fn nowhere(rt: &impl Abort, group: &mut Group) {
     let events = to_nowhere(rt, group);
     let ended = group.run(events.as_slice());

@@ -11,6 +11,7 @@ pub(crate) enum Step {
     Arm(u8, u32),
     Crash(u8, u8),
     Restart(u8),
-    /// Each message that no such step has taken reaches all nodes, and so do those that come of it.
+    /// Each message that no such step has taken reaches all nodes, and so do the messages that follow from
+    /// it.
     Settle,
 }

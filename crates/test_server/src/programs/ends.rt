@@ -15,10 +15,10 @@ pub(crate) fn with_room(alloc: Global, room: usize) -> Counted<Sink> {
 /// What the greeting prints.
 const PAGE: &[u8] = b"Hello, world!\n";
 
-/// What is said where nothing is released.
+/// What is said if nothing is released.
 const LINE: &[u8] = b"no release\n";
 
-/// How it ends where a command is cut off.
+/// How it ends if a command is cut off.
 const FRAMING: &[u8] = b": framing\n";
 
 fn says_framing(rt: &impl Abort, printed: &Printed) {
@@ -47,7 +47,7 @@ fn input_cut_off_anywhere(rt: HostRuntime) {
     }
 }
 
-/// What is printed over a reader that fails after so many calls, and how many failed.
+/// What is printed over a reader that fails after `good` calls, and how many calls failed.
 fn over_reader(alloc: Global, good: usize) -> (Printed, u64) {
     let mut reader = Counted::new(trickle(GREETING.as_bytes(), good));
     let mut out = with_room(alloc, 1000);
@@ -79,7 +79,7 @@ fn a_reader_fails_anywhere(rt: HostRuntime) {
     }
 }
 
-/// What is printed over writers with so much room, and how many calls of each failed.
+/// What is printed over writers with room for `out` and `err` bytes, and how many calls of each failed.
 fn over_writers(alloc: Global, input: &str, out: usize, err: usize) -> (Printed, (u64, u64)) {
     let mut reader = Counted::new(input.as_bytes());
     let mut out = with_room(alloc, out);

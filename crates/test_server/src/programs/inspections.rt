@@ -1,11 +1,11 @@
-//! When a record is asked what it holds.
+//! Which command lines ask what a record holds.
 
 use crate::comparing::{ensure, same};
 use crate::programs::options::words;
 use sitectl::inspected;
 use std::process::Abort;
 
-/// The words of a line, and the file that is to be looked at, if one is.
+/// The words of a line, and the file to inspect, if there is one.
 const LINES: &[(&str, Option<&str>)] = &[
     ("sited --inspect r", Some("r")),
     ("other --inspect --inspect", Some("--inspect")),

@@ -37,7 +37,7 @@ fn is_said(rt: &impl Abort, alloc: Global, why: Misuse, status: u8, text: &str) 
     ensure(rt, told.as_slice() == text.as_bytes(), text);
 }
 
-/// What a read of the command line that failed so comes to.
+/// The misuse that is reported if a read of the command line fails with an error of that kind.
 fn read_failed(kind: io::ErrorKind) -> Misuse {
     Misuse::from(io::Error::from(kind))
 }
@@ -59,7 +59,7 @@ fn a_line_that_is_refused_says_why(rt: HostRuntime) {
     is_said(&rt, rt.alloc(), why, 2, NO_NUMBER);
 }
 
-/// What refuses a line ends by that example.
+/// The text that refuses a line ends with that example.
 fn helps<T: Drop>(rt: &impl Abort, alloc: Global, outcome: Result<T, Error>, example: &str) {
     let (status, told) = said(alloc, refused_by(outcome));
     ensure(rt, status == 2, example);

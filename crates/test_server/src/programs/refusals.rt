@@ -1,9 +1,9 @@
-//! Each call with one growth refused: it answers as ever, or that memory was refused, and then the next try
-//! answers as ever.
+//! Each call with one allocation that fails. It returns what it always returns, or that an allocation failed,
+//! and then the next try returns what it always returns.
 //!
-//! All is tried twice, since a second program, `tools/gate/refuse-growths`, runs each test once for each
-//! growth of its memory and refuses that one: the first try meets it, the second does not. Alone a test is
-//! refused nothing.
+//! Each test tries everything twice. A second program, `tools/gate/refuse-growths`, runs each test once for
+//! each of its allocations, and makes that one fail: the first try meets it, the second does not. Without
+//! that program no allocation fails.
 use crate::comparing::ensure;
 use crate::programs::runs::{GREETING, Printed, run};
 use std::alloc::Global;
@@ -17,7 +17,7 @@ fn is_page(printed: &Printed, body: &str) -> bool {
     printed.status == 0 && printed.out.as_slice() == body.as_bytes() && printed.err.is_empty()
 }
 
-/// One line alone: the engine's memory was refused, or that of the writer over memory.
+/// Only one line: an allocation of the engine failed, or one of the writer over memory.
 fn is_refusal(printed: &Printed) -> bool {
     let line = printed.err.as_slice();
     printed.status == 1
@@ -25,7 +25,7 @@ fn is_refusal(printed: &Printed) -> bool {
         && (line == b"out of memory\n".as_slice() || line == b"write failed\n".as_slice())
 }
 
-/// Whether a run shows the page. Else it was refused memory.
+/// Whether a run shows the page. If not, an allocation failed.
 fn shows(rt: &impl Abort, printed: &Printed, body: &str) -> bool {
     if is_page(printed, body) {
         return true;
@@ -38,7 +38,7 @@ fn run_shows(rt: &impl Abort, alloc: Global, input: &str, body: &str) -> bool {
     shows(rt, &run(alloc, input.as_bytes(), None, "/"), body)
 }
 
-/// One of two runs is refused memory at most.
+/// At most one of two runs has an allocation that fails.
 fn engine(rt: &impl Abort, alloc: Global, input: &str, body: &str) {
     let first = run_shows(rt, alloc, input, body);
     let second = run_shows(rt, alloc, input, body);

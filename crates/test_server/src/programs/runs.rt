@@ -17,7 +17,7 @@ pub(crate) struct Printed {
     pub err: Vec<u8>,
 }
 
-/// A run printed this, and ended so.
+/// A run ended with this status, and printed this.
 pub(crate) fn prints(rt: &impl Abort, printed: &Printed, wanted: (u8, &[u8], &[u8])) {
     let (out, err) = (printed.out.as_slice(), printed.err.as_slice());
     same(rt, (printed.status, out, err), wanted);

@@ -18,7 +18,7 @@ fn shown(rt: &impl Abort, alloc: Global, o: &ServeOptions<'_>) -> String {
     .expect(rt, "memory")
 }
 
-/// Lines, and what each names; none where it is refused.
+/// Lines, and what each names; empty if it is refused.
 const SERVERS: &[(&str, &str)] = &[
     (
         "sited --id 1 --record r --http h --rounds 2",

@@ -23,7 +23,7 @@ fn trickled(alloc: Global, good: usize, room: usize) -> Printed {
     }
 }
 
-/// It fails as a line says, after a beginning of what is printed.
+/// It fails as its line says, after a beginning of what is printed.
 fn is_begun(rt: &impl Abort, printed: &Printed) {
     let begun = printed.out.as_slice();
     prints(rt, printed, (1, begun, b"read failed\n"));
@@ -39,7 +39,7 @@ fn a_reader_fails_anywhere(rt: HostRuntime) {
     prints(&rt, &whole, (0, PRINTED, b""));
 }
 
-/// It fails as a line says, after that beginning of what is printed.
+/// It fails as its line says, after that beginning of what is printed.
 fn is_cut(rt: &impl Abort, alloc: Global, begun: &[u8]) {
     let printed = trickled(alloc, 1000, begun.len());
     prints(rt, &printed, (1, begun, b"write failed\n"));

@@ -26,7 +26,7 @@ fn a_version_is_asked_for_alone(rt: HostRuntime) {
 
 const TOLD: &[u8] = b"sitesim 1.0\n";
 
-/// The status, and what is told of a program.
+/// The status, and what is printed of a program.
 fn told(rt: &impl Abort, alloc: Global) -> (u8, Vec<u8>) {
     let mut out = Counted::new(Vec::<u8>::new(alloc));
     let status = tell_version(alloc, &mut out, "sitesim").expect(rt, "memory");
