@@ -4,9 +4,9 @@
 //! `command` whether a text is a command. If it is not, `template_reasons.rt`, `data_reasons.rt` and
 //! `reasons.rt` say why, for people: the place, and what to do. `lines.rt` reads `routes`, `redirects` and
 //! `removes`, `keys.rt` reads the keys of data, and `tags.rt` keeps names. `checks.rt` looks for names of
-//! what does not exist, `unreached.rt` for paths that no link leads to, `endless.rt` for redirects in
-//! circles, and `unused.rt` for what no page reaches. `pages.rt` renders each route, as a node would.
-//! `limits.rt` says which limit a page exceeds, `moved.rt` makes the file of a page that moved, and
+//! what does not exist, `unreached.rt` for paths that a link has to spell otherwise, `endless.rt` for
+//! redirects in circles, and `unused.rt` for what no page reaches. `pages.rt` renders each route, as a node
+//! would. `limits.rt` says which limit a page exceeds, `moved.rt` makes the file of a page that moved, and
 //! `copies.rt` says which file of a static copy a page is. `views.rt` says what a node shows of any texts,
 //! and `restoring.rt` which files put them. `beginning.rt` has a small site to start from.
 #![tactic(auto)]
