@@ -202,7 +202,7 @@ impl Search {
     }
 }
 
-/// Why what is not a file is not read, as a queue or a device: that might never end.
+/// Why what is not a file, as a queue or a device, is not read: that might never end.
 pub(crate) fn not_a_file() -> io::Error {
     io::Error::new(io::ErrorKind::InvalidInput, "not a file")
 }

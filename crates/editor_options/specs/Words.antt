@@ -31,7 +31,7 @@ abbrev pub IsNumberOr : Found → List ℕ → ℕ → ℕ → Type 0
 IsNumberOr found name other number =
     (given : Option ℕ) × IsNumber found name given × (number ≡ unwrap_or given other)
 
--- how a publication was told to go
+-- what a publication was told to do
 pub record IsPublication (found : Found) (word : PublishWord) : Type 0 where
   pub folder : word.folder.now ≡ unwrap_or (first_value found (codes "folder")) []
   pub logins : option_map (λ s. s.now) word.logins ≡ first_value found (codes "logins")

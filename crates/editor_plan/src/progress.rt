@@ -11,7 +11,8 @@ pub(crate) const EACH: u64 = 1_000;
 /// After how many milliseconds it is printed that no receipt came.
 pub(crate) const SILENCE: u64 = 2_000;
 
-/// The commands are divided into that many equal parts: the ledger is saved again after more than one part.
+/// The number of equal parts of the commands: the ledger is saved again after more than one part has its
+/// receipts.
 pub(crate) const PARTS: usize = 16;
 
 /// What was printed of a delivery, and when, in milliseconds since it began.
