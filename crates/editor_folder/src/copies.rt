@@ -10,7 +10,7 @@ const ENDINGS: [&str; 7] = [".html", ".css", ".js", ".json", ".svg", ".txt", ".x
 pub enum NoCopy {
     /// Its path has an empty part, `.` or `..`.
     NoPath,
-    /// Another page has its file, or a folder of that name, or a file where its folder would be.
+    /// Another page has its file, or a folder of that name, or a file in place of its folder.
     Taken,
 }
 

@@ -91,7 +91,7 @@ pub fn is_of_site(path: &str) -> bool {
     )
 }
 
-/// Whether the folder at a path below a site's folder has files of the site, in it or further below.
+/// Whether the folder at a path below a site's folder is for files of the site, in it or further below.
 pub fn is_part(path: &str) -> bool {
     matches!(before(path, '/'), "templates" | "partials" | "data")
 }

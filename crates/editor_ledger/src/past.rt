@@ -44,7 +44,7 @@ fn olds_since(alloc: Global, ticket: u64, past: &[Past]) -> Result<Vec<String>, 
     Ok(olds)
 }
 
-/// The texts that the group has about what none of `olds` is about.
+/// The texts that the group has, except those about the same as one of `olds`.
 fn others<'a>(
     alloc: Global,
     kept: &'a [String],

@@ -434,7 +434,7 @@ fn word_of<'a>(
 }
 
 /// Reads the words of a command line, the program's name first. If `clap` refuses them, its fault says why;
-/// so does help.
+/// help is such a fault.
 pub fn word_in<'a>(alloc: Global, words: &'a [String]) -> Result<Option<Word<'a>>, Error> {
     let matches = matches_of(alloc, words)?;
     match matches.subcommand() {

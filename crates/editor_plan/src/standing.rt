@@ -23,7 +23,7 @@ pub struct Witness {
 pub enum Standing {
     /// It is the newest of its editor, as far as nodes know.
     Newest,
-    /// The group knows a command of its next ticket: there is a newer one.
+    /// The group knows a command of its next ticket: there is a newer ledger.
     Older,
     /// No node knows its last ticket, though one shows as many releases: it is of another group.
     Elsewhere,
