@@ -6,11 +6,11 @@ use Rattle.std.specs.Io.KnownBytes.{Appends}
 abbrev pub with_end : List ℕ → List ℕ
 with_end line = line ++ 10 ∷ []
 
--- so many lines were written, and nothing else
+-- n lines were written, and nothing else
 abbrev pub WritesLines : ℕ → Option (List ℕ) → Option (List ℕ) → Type 0
 WritesLines n old new =
     (lines : List (List ℕ)) × (length lines ≡ n) × Appends old new (flat_map with_end lines)
 
--- one was
+-- one line was written, and nothing else
 abbrev pub WritesLine : Option (List ℕ) → Option (List ℕ) → Type 0
 WritesLine old new = (line : List ℕ) × Appends old new (with_end line)

@@ -1,4 +1,4 @@
--- What a word came to.
+-- The outcome of a word.
 use Rattle.serde_json.specs.Data.{Members}
 use Rattle.serde_json.specs.View.{members_view}
 use Rattle.editor_common.specs.declared.outcome.Outcome.{Outcome}

@@ -3,7 +3,7 @@ use std::alloc::{AllocError, AllocFailed, Global};
 use std::io;
 use thiserror::Error;
 
-/// Why a word came to no end.
+/// Why a word failed.
 #[derive(Debug, Drop, Error)]
 pub enum EditorFault {
     /// A file or a folder, and what the system says of it.
@@ -13,7 +13,7 @@ pub enum EditorFault {
     ManyFolders,
     #[error("standard output could not be written")]
     Write,
-    /// Why a group or a ledger lets nothing go on, and what to do.
+    /// Why a group or a ledger stops a word, and what to do.
     #[error("{0}")]
     Stop(String),
     #[error("the numbers of the commands of this editor are used up: move the file published away (log, \
@@ -63,7 +63,7 @@ impl From<LedgerFault> for EditorFault {
 impl EditorFault {
     ghost use Rattle.editor_common.specs.Faults.{IsAtPath};
 
-    /// That of a file or a folder: what the system says of it.
+    /// The fault of a file or a folder: what the system says of it.
     pub fn at_path(alloc: Global, path: &str, fault: io::Error) -> EditorFault
         ensures { IsAtPath path.now result }
     {

@@ -1,5 +1,5 @@
-//! What the words of `sitepub` share: why one came to no end, what one came to, a line that is
-//! written, and how long something is waited for.
+//! What the words of `sitepub` share: why one failed, the outcome of one, lines that are written, and
+//! waiting.
 #![tactic(auto)]
 
 mod editor_fault;

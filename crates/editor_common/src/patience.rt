@@ -1,4 +1,4 @@
-//! How long something is waited for.
+//! Time, and waiting.
 
 ghost use Rattle.std.specs.Prelude.{◌≡◌, IfErr};
 
@@ -17,7 +17,7 @@ pub fn now<C: Clock>(clock: &C) -> Result<Instant, TalkFault>
     }
 }
 
-/// How many milliseconds passed since then.
+/// How many milliseconds have passed since `since`.
 pub fn passed<C: Clock>(clock: &C, since: Instant) -> Result<u64, TalkFault>
     ensures { IfErr result (λ fault. fault ≡ TalkFault.Clock) }
 {
@@ -27,7 +27,7 @@ pub fn passed<C: Clock>(clock: &C, since: Instant) -> Result<u64, TalkFault>
     }
 }
 
-/// Rests for so many milliseconds.
+/// Rests for `millis` milliseconds.
 pub fn rest<C: Clock>(clock: &C, millis: u64) {
     thread::sleep(clock, Duration::from_millis(millis));
 }

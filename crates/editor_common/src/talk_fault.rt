@@ -1,10 +1,10 @@
-//! Why speaking to a group came to no end.
+//! Why a talk with a group failed.
 ghost use Rattle.std.specs.Prelude.{◌≡◌};
 
 use crate::editor_fault::EditorFault;
 use std::alloc::{AllocError, AllocFailed};
 
-/// Why speaking to a group, and writing what it says, came to no end.
+/// Why a talk with a group failed, or the writing of what the group says.
 #[derive(Clone, Copy, Debug, Drop, PartialEq, Eq)]
 pub enum TalkFault {
     /// A line could not be written.

@@ -17,7 +17,7 @@ pub fn say<W: Write>(out: &mut W, line: &str) -> Result<(), TalkFault>
     }
 }
 
-/// Writes a line, where there was memory to make it.
+/// Writes a line, if it could be allocated.
 pub fn say_made<W: Write>(out: &mut W, line: Result<String, AllocError>) -> Result<(), TalkFault>
     ensures written { OnOk result (WritesLine (W.contents out.old) (W.contents out.new)) }
 {

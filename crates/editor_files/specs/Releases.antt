@@ -4,7 +4,7 @@ use Rattle.editor_ledger.specs.Books.{Book}
 use Rattle.editor_ledger.specs.Past.{texts_at, reaches}
 use Rattle.editor_plan.specs.Unlogged.{ticket_of}
 
--- those that stood at the ticket of the release, which the ledger reaches
+-- those that the group had at the ticket of the release, which the ledger reaches
 pub record HasTexts (release : ℕ) (book : Book) (texts : List (List ℕ)) : Type 0 where
   pub ticket : ℕ
   pub is_ticket : ticket_of release book ≡ Some ticket

@@ -1,4 +1,4 @@
-//! The files of a folder, read; and files that are written.
+//! Reads the files of a folder, and writes files.
 ghost use Rattle.std.specs.Prelude.{IfErr};
 ghost use Rattle.editor_common.specs.Faults.{IsAtPath};
 
@@ -11,7 +11,7 @@ use std::os::unix::fs::MetadataExt;
 use std::rt::Files;
 use std::{fs, io};
 
-/// So many folders are looked into, and no more: a link may lead back.
+/// The most folders that are searched: a link may lead back.
 const MAX_FOLDERS: u32 = 10_000;
 
 /// What an editor's program keeps in a folder beside the site's files.
@@ -22,24 +22,24 @@ const KEPT: &str = "published";
 enum Taking {
     /// Its bytes.
     Bytes,
-    /// How it looks from outside: another text once it was written.
+    /// How it looks from outside: the text changes if the file is written.
     Looks,
 }
 
-/// The files of a folder, in the order of their paths, and how many files and folders were passed over, but
-/// for those whose names begin with a dot.
+/// The files of a folder, in the order of their paths, and how many files and folders were ignored, except
+/// those whose names begin with a dot.
 #[derive(Drop)]
 pub(crate) struct Found {
     pub files: Vec<SiteFile>,
     pub passed_over: usize,
 }
 
-/// A folder while it is gone through.
+/// A folder while it is searched.
 #[derive(Drop)]
 struct Search {
     /// Files by their paths.
     files: BTreeMap<String, Vec<u8>>,
-    /// Folders that are still to be looked into.
+    /// Folders that are still to be searched.
     pending: Vec<String>,
     passed_over: usize,
     wanted: Wanted,
@@ -49,26 +49,26 @@ struct Search {
 /// What is looked for in a folder.
 #[derive(Clone, Copy)]
 enum Wanted {
-    /// The files of a site; whether others are passed over.
+    /// The files of a site; `ignore` says whether others are ignored.
     Site { ignore: bool },
-    /// A generator's pages, and its sitemap; of other files the names.
+    /// A generator's pages and its sitemap, and only the names of other files.
     Pages,
 }
 
-/// What stands at a path below a folder.
+/// What a path below a folder is.
 #[derive(Clone, Copy)]
 enum Kind {
     /// A folder of a site's files.
     Part,
     /// A file of a site.
     Site,
-    /// A file of which the name alone is wanted.
+    /// A file of which only the name is wanted.
     Named,
     /// None of these.
     Other,
 }
 
-/// A path and a name below it, where either may be empty.
+/// A path and a name below it. Either may be empty.
 pub fn below(alloc: Global, path: &str, name: &str) -> Result<String, AllocError> {
     if path.is_empty() {
         return String::from_str(alloc, name);
@@ -79,7 +79,7 @@ pub fn below(alloc: Global, path: &str, name: &str) -> Result<String, AllocError
     format!(in alloc; "{path}/{name}")
 }
 
-/// What the system gave of a path, or what it says of that.
+/// What the system gave for a path, or what it says of the path.
 pub(crate) fn at<T>(alloc: Global, path: &str, given: io::Result<T>) -> Result<T, EditorFault>
     ensures { IfErr result (IsAtPath path.now) }
 {
@@ -116,7 +116,7 @@ fn site_kind(is_folder: bool, path: &str) -> Kind {
 }
 
 impl Wanted {
-    /// Whether what stands at a path is not looked at.
+    /// Whether a path is not looked at.
     fn skips(self, path: &str) -> bool {
         match self {
             Wanted::Site { .. } => path == KEPT,
@@ -124,7 +124,7 @@ impl Wanted {
         }
     }
 
-    /// Whether what stands at a path is passed over.
+    /// Whether a path is ignored.
     fn passes_over(self, path: &str) -> bool {
         match self {
             Wanted::Site { .. } => is_passed_over(path),
@@ -140,7 +140,7 @@ impl Wanted {
         }
     }
 
-    /// Whether files of no kind are passed over.
+    /// Whether files of no kind are ignored.
     fn ignores(self) -> bool {
         matches!(self, Wanted::Site { ignore: true })
     }
@@ -185,7 +185,7 @@ impl Search {
         Ok(())
     }
 
-    /// Puts what is no part of a site: a folder where a file of one would be has a slash after its name.
+    /// Puts what is not part of a site. A folder in place of a site's file gets a slash after its name.
     fn put_other(&mut self, alloc: Global, path: &str) -> Result<(), AllocError> {
         let path = if is_of_site(path) {
             format!(in alloc; "{path}/")?
@@ -202,12 +202,12 @@ impl Search {
     }
 }
 
-/// Why what is no file is not read, as a queue or a device: that might never end.
+/// Why what is not a file, as a queue or a device, is not read: that might never end.
 pub(crate) fn not_a_file() -> io::Error {
     io::Error::new(io::ErrorKind::InvalidInput, "not a file")
 }
 
-/// What is taken of a file at a path, of which the system says that.
+/// What is taken of a file at a path. `found` is what the system says of it.
 fn taken_of<R: Files + AllocGlobal>(
     rt: &R,
     whole: &str,
@@ -223,7 +223,7 @@ fn taken_of<R: Files + AllocGlobal>(
     }
 }
 
-/// Takes what stands at a path below the folder; that is it as a whole.
+/// Takes what is at a path below the folder. `whole` is the path with the folder before it.
 fn take_at<R: Files + AllocGlobal>(
     rt: &R,
     whole: &str,
@@ -245,14 +245,14 @@ fn take_at<R: Files + AllocGlobal>(
     Ok(())
 }
 
-/// Whether a name begins with a dot: git's and editors' own, of which nobody wants to be told.
+/// Whether a name begins with a dot: git's and editors' own files, of which nobody wants a report.
 fn begins_with_a_dot(path: &str) -> bool {
     path.rsplit_once('/')
         .map_or(path, |(_, name)| name)
         .starts_with('.')
 }
 
-/// Takes what stands at a path below the folder.
+/// Takes what is at a path below the folder.
 fn take<R: Files + AllocGlobal>(
     rt: &R,
     root: &str,
@@ -287,7 +287,7 @@ fn take_names<R: Files + AllocGlobal>(
     Ok(())
 }
 
-/// Looks into a folder below the site's.
+/// Searches a folder below the site's.
 fn look_in<R: Files + AllocGlobal + Clone + Drop>(
     rt: &R,
     root: &str,
@@ -299,7 +299,7 @@ fn look_in<R: Files + AllocGlobal + Clone + Drop>(
     take_names(rt, root, folder, &names, search)
 }
 
-/// Looks into all folders of a site's.
+/// Searches all folders of a site.
 fn look_around<R: Files + AllocGlobal + Clone + Drop>(
     rt: &R,
     root: &str,
@@ -318,7 +318,7 @@ fn look_around<R: Files + AllocGlobal + Clone + Drop>(
     Err(EditorFault::ManyFolders)
 }
 
-/// Looks for the files of a folder, and takes that of each.
+/// Looks for the files of a folder, and takes of each what `taking` says.
 fn look_for<R: Files + AllocGlobal + Clone + Drop>(
     rt: &R,
     root: &str,
@@ -358,8 +358,8 @@ fn lines_of(alloc: Global, files: &[SiteFile]) -> Result<String, AllocError> {
     Ok(lines)
 }
 
-/// How the files of a folder look from outside, none of which is read: another text where one came or went,
-/// or was written, as its time, size or inode tells.
+/// How the files of a folder look from outside, without a read of any. The text changes if a file came, went
+/// or was written, as its time, size or inode shows.
 pub fn seen_in<R: Files + AllocGlobal + Clone + Drop>(
     rt: &R,
     root: &str,
@@ -369,9 +369,8 @@ pub fn seen_in<R: Files + AllocGlobal + Clone + Drop>(
     Ok(lines_of(rt.alloc(), &found.files)?)
 }
 
-/// The files below a folder of another generator's pages, in the order of their paths: of pages, whose names
-/// end in `.html`, and of `sitemap.xml` with their bytes, of others without. Names with a dot before are
-/// passed over.
+/// The files below a folder of another generator's pages, in the order of their paths. Pages, whose names end
+/// in `.html`, and `sitemap.xml` have their bytes; others have none. Names that begin with a dot are ignored.
 pub fn pages_below<R: Files + AllocGlobal + Clone + Drop>(
     rt: &R,
     root: &str,
@@ -407,7 +406,7 @@ pub fn is_free<R: Files + AllocGlobal + Clone + Drop>(
     }
 }
 
-/// Makes the folders that a file stands in.
+/// Makes the folders that a file is in.
 fn make_folders<R: Files + AllocGlobal>(rt: &R, path: &str) -> Result<(), EditorFault> {
     let Some((folder, _)) = path.rsplit_once('/') else {
         return Ok(());
@@ -415,7 +414,7 @@ fn make_folders<R: Files + AllocGlobal>(rt: &R, path: &str) -> Result<(), Editor
     at(rt.alloc(), folder, fs::create_dir_all(rt, folder))
 }
 
-/// Writes a file, and makes the folders that it stands in.
+/// Writes a file, and makes the folders that it is in.
 pub fn write_file<R: Files + AllocGlobal>(
     rt: &R,
     path: &str,

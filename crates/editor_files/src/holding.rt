@@ -4,8 +4,8 @@ use editor_common::EditorFault;
 use std::fs::{File, TryLockError};
 use std::rt::Files;
 
-/// Holds a folder until the file is let go of, which is the folder's own: no other process holds it
-/// meanwhile. The lock is advisory (flock(2)), and nothing of it is left behind.
+/// Holds a folder until the returned file, which is the folder's own, is dropped: no other process holds it
+/// meanwhile. The lock is advisory (flock(2)), and leaves nothing behind.
 pub fn hold<R: Files<File = File> + AllocGlobal>(
     rt: &R,
     folder: &str,

@@ -1,10 +1,10 @@
 //! The files of a site's folder, read and written: what an editor's program has from a disk.
 //!
-//! `files.rt` reads the files of a folder and writes some, `holding.rt` keeps other processes from
-//! publishing it meanwhile, `reading.rt` tells what is wrong with them, as `editor_folder` says, and
-//! `saving.rt` keeps the file `published`: it alone makes the `Saved` of `saved.rt`, out of which commands
-//! are sent. `released.rt` has the texts of a release from there, `listing.rt` findings for programs,
-//! `secrets.rt` reads a file that has passwords. What a real file gives and takes is tested, not proved.
+//! `files.rt` reads the files of a folder and writes some. `holding.rt` keeps other processes from publishing
+//! the folder meanwhile. `reading.rt` prints what is wrong with the files, as `editor_folder` says.
+//! `saving.rt` keeps the file `published`: only it makes the `Saved` of `saved.rt`, out of which commands are
+//! sent. `released.rt` has the texts of a release from there, and `listing.rt` findings for programs.
+//! `secrets.rt` reads a file that has passwords. What real files do is tested, not proved.
 #![tactic(auto)]
 
 mod files;

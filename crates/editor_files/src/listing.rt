@@ -3,7 +3,7 @@ use editor_folder::{Finding, Place, Weight};
 use serde_json::{Value, json};
 use std::alloc::{AllocError, Global};
 
-/// How a finding's weight is called.
+/// The name of a finding's weight.
 fn weight_name(weight: Weight) -> &'static str {
     match weight {
         Weight::Fault => "fault",

@@ -1,4 +1,4 @@
-//! A folder read, and what is wrong with it told.
+//! Reads a folder, and prints what is wrong with it.
 use crate::files::files_of;
 use editor_common::{EditorFault, say_made};
 use editor_folder::{Finding, Folder, Page, Weight, folder_of, page_faults, pages_of};
@@ -7,18 +7,18 @@ use std::collections::BTreeMap;
 use std::io::Write;
 use std::rt::Files;
 
-/// So many findings of one reason are told, and then how many more there are.
+/// How many findings of one reason are printed, before the number of the others.
 const TOLD: usize = 10;
 
 /// A folder as it was read.
 #[derive(Drop)]
 pub struct Read {
     pub folder: Folder,
-    /// Its pages, where its files have no fault.
+    /// Its pages, if its files have no fault.
     pub pages: Vec<Page>,
     /// What is wrong with its files, and then with its pages.
     pub findings: Vec<Finding>,
-    /// How many files and folders were passed over, but for those whose names begin with a dot.
+    /// How many files and folders were ignored, except those whose names begin with a dot.
     pub passed_over: usize,
 }
 
@@ -38,13 +38,13 @@ fn has_fault(findings: &[Finding]) -> bool {
 }
 
 impl Read {
-    /// Whether it can't be published.
+    /// Whether the folder cannot be published.
     pub fn has_fault(&self) -> bool {
         has_fault(&self.findings)
     }
 }
 
-/// The pages of a folder whose files have no fault, and what is wrong with them is added.
+/// The pages of a folder, if its files have no fault. What is wrong with the pages is added.
 fn read_pages(
     alloc: Global,
     folder: &Folder,
@@ -59,7 +59,7 @@ fn read_pages(
     Ok(pages)
 }
 
-/// Reads a folder. What is wrong with it is not told.
+/// Reads a folder. It does not print what is wrong with it.
 pub fn read_folder<R: Files + AllocGlobal + Clone + Drop>(
     rt: &R,
     name: &str,
@@ -79,7 +79,7 @@ pub fn read_folder<R: Files + AllocGlobal + Clone + Drop>(
     })
 }
 
-/// How often each reason came, counted with one more.
+/// Counts a reason once more, and returns how often it came.
 fn count(
     alloc: Global,
     counts: &mut BTreeMap<String, usize>,
@@ -90,7 +90,7 @@ fn count(
     Ok(count)
 }
 
-/// Writes how many findings more each reason has than were told.
+/// Writes how many findings more each reason has than were printed.
 fn tell_more<E: Write>(
     alloc: Global,
     err: &mut E,
@@ -110,8 +110,8 @@ fn tell_more<E: Write>(
     Ok(())
 }
 
-/// Writes what is wrong with a folder, a line each; of many with one reason the first, and how many more
-/// there are.
+/// Writes what is wrong with a folder, a line each. Of many findings with one reason it writes the first, and
+/// how many more there are.
 pub fn tell_findings<E: Write>(
     alloc: Global,
     err: &mut E,
@@ -127,7 +127,7 @@ pub fn tell_findings<E: Write>(
     tell_more(alloc, err, folder, &counts)
 }
 
-/// Tells all that is wrong with a folder that was read; nothing is given where that is a fault.
+/// Prints all that is wrong with a folder that was read; `None` if it has a fault.
 pub fn clean_of<E: Write>(
     alloc: Global,
     err: &mut E,
@@ -144,7 +144,7 @@ pub fn clean_of<E: Write>(
     }))
 }
 
-/// Reads a folder, and tells all that is wrong with it; nothing is given where that is a fault.
+/// Reads a folder, and prints all that is wrong with it; `None` if it has a fault.
 pub fn read_clean<R: Files + AllocGlobal + Clone + Drop, E: Write>(
     rt: &R,
     err: &mut E,

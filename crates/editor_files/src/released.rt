@@ -42,7 +42,7 @@ pub fn release_texts(
     }
 }
 
-/// Texts, lent.
+/// The texts, borrowed.
 pub fn lent(alloc: Global, texts: &[String]) -> Result<Vec<&str>, AllocError>
     ensures { IfOk result (λ lent. map (λ t. t.now) lent.items ≡ map string_bytes texts.now) }
 {

@@ -9,8 +9,8 @@ use editor_plan::{Ask, Flight, Heard};
 use std::alloc::AllocError;
 use std::rt::Files;
 
-/// A ledger whose folder has it in its file, but for receipts that came since: what is on its way may be
-/// sent. `save` alone makes one, so no text is sent under a ticket of which the file does not know.
+/// A ledger that its folder has in its file, except receipts that came since: what is on its way may be sent.
+/// Only `save` makes one, so no text is sent under a ticket that the file lacks.
 #[derive(Drop)]
 pub struct Saved<'a> {
     pub(crate) folder: &'a str,

@@ -11,7 +11,7 @@ use std::io::{self, Write};
 use std::random::RandomSource;
 use std::rt::Files;
 
-/// Where a folder's file is.
+/// The path of a folder's file.
 fn ledger_path(alloc: Global, folder: &str) -> Result<String, AllocError> {
     below(alloc, folder, "published")
 }
@@ -25,7 +25,8 @@ fn ledger_in(alloc: Global, path: &str, text: &str) -> Result<Ledger, EditorFaul
     }
 }
 
-/// The text of the file at a path. What is no file is not opened, since to read a queue would wait for ever.
+/// The text of the file at a path. What is not a file is not opened, since a read of a queue would wait for
+/// ever.
 fn text_at<R: Files + AllocGlobal>(rt: &R, path: &str) -> io::Result<String> {
     if fs::metadata(rt, path)?.is_file() {
         fs::read_to_string(rt, path)
@@ -34,7 +35,7 @@ fn text_at<R: Files + AllocGlobal>(rt: &R, path: &str) -> io::Result<String> {
     }
 }
 
-/// Reads a folder's ledger; nothing where it has none.
+/// Reads a folder's ledger; `None` if it has none.
 pub fn read_ledger<R: Files + AllocGlobal>(
     rt: &R,
     folder: &str,
@@ -73,8 +74,8 @@ fn permissions_of<R: Files>(rt: &R, path: &str) -> io::Result<Option<Permissions
     }
 }
 
-/// Replaces a file of a folder by another one with this text, which is on disk then under that name, with the
-/// permissions of the one before.
+/// Replaces a file of a folder by another with this text and the permissions of the one before. After that
+/// the other is on disk under that name.
 fn replace<R: Files>(rt: &R, folder: &str, fresh: &str, path: &str, text: &str) -> io::Result<()> {
     let permissions = permissions_of(rt, path)?;
     write_whole(rt, fresh, text)?;
@@ -85,8 +86,8 @@ fn replace<R: Files>(rt: &R, folder: &str, fresh: &str, path: &str, text: &str) 
     File::open(rt, folder)?.sync_all()
 }
 
-/// Writes a folder's file: it is the one before, or the whole of this ledger's, whenever this is interrupted,
-/// and this ledger's once it is written.
+/// Writes a folder's file. If it is interrupted, the file is the one before, or the whole of this ledger's.
+/// After it, the file is this ledger's.
 pub(crate) fn write_ledger<R: Files + AllocGlobal>(
     rt: &R,
     folder: &str,

@@ -20,7 +20,7 @@ fn too_open(alloc: Global, path: &str) -> Result<EditorFault, AllocError>
     Ok(EditorFault::Stop(format!(in alloc; "{path}:{why}")?))
 }
 
-/// The text of a file that nobody but its owner may read.
+/// The text of a file that only its owner may read.
 pub fn read_secret<R: Files + AllocGlobal>(rt: &R, path: &str) -> Result<String, EditorFault>
     ensures { IfErr result (IsInFile path.now) }
 {

@@ -1,4 +1,4 @@
--- Where a byte of a text stands, as editors count.
+-- The place of a byte of a text, as editors count.
 use Rattle.std.specs.Prelude.{ℕ, suc, List, Bool, not, ◌==◌, take, reverse, count_by, take_while, nat_lt}
 use Rattle.std.specs.Prelude.{nat_le, ◌||◌}
 

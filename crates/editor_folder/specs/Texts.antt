@@ -15,7 +15,7 @@ pub record IsCommandText (text : List ℕ) : Type 0 where
   pub order : Order
   pub reads : value_reading (value_of nobodys text) ≡ Ok order
 
--- the text has that fault, and the refusal is told by its line
+-- the text has the fault of the refusal, whose line is that fault's
 pub record IsRefused (text : List ℕ) (refusal : Refusal) : Type 0 where
   pub reads : value_reading (value_of nobodys text) ≡ Err refusal.fault
   pub told : string_bytes refusal.line ≡ line_of refusal.fault

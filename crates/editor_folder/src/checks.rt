@@ -1,5 +1,5 @@
-//! What is wrong with a folder beyond its files: routes that name what isn't there, redirects that lead
-//! nowhere, partials that aren't there, and paths that readers take for one.
+//! What is wrong with a folder beyond its files: routes that name what does not exist, redirects that lead
+//! nowhere, partials that do not exist, and paths that readers take for one.
 
 use crate::endless::endless;
 use crate::finding::{Finding, Weight};
@@ -12,7 +12,7 @@ use command::Kind;
 use std::alloc::{AllocError, Global};
 use std::collections::BTreeMap;
 
-/// A route's template isn't there.
+/// A route's template does not exist.
 fn missing_template(alloc: Global, route: &Route) -> Result<Finding, AllocError> {
     let name = route.template.as_str();
     let reason = format!(in alloc;
@@ -21,21 +21,21 @@ fn missing_template(alloc: Global, route: &Route) -> Result<Finding, AllocError>
     line_fault(alloc, "routes", route.line, reason)
 }
 
-/// A route's data aren't there.
+/// A route's data do not exist.
 fn missing_data(alloc: Global, route: &Route) -> Result<Finding, AllocError> {
     let name = route.page_data.as_str();
     let reason = format!(in alloc; "there is no data/{name}.json: make it, or name another")?;
     line_fault(alloc, "routes", route.line, reason)
 }
 
-/// A path has a route, and so has the bare one, without its slash at the end.
+/// A path has a route, and so has the same path without its final slash.
 fn two_paths(alloc: Global, route: &Route, bare: &str) -> Result<Finding, AllocError> {
     let path = route.path.as_str();
     let reason = format!(in alloc; "{path} and {bare} are two paths, which readers take for one")?;
     line_warning(alloc, "routes", route.line, reason)
 }
 
-/// A partial that is called isn't there.
+/// A partial that is called does not exist.
 fn missing_partial(alloc: Global, call: &TagName) -> Result<Finding, AllocError> {
     let name = call.name.as_str();
     let reason = format!(in alloc;
@@ -44,7 +44,7 @@ fn missing_partial(alloc: Global, call: &TagName) -> Result<Finding, AllocError>
     warning_in(alloc, call.file.as_str(), call.place, reason)
 }
 
-/// No data have a name.
+/// No data have this name.
 fn missing_name(alloc: Global, tag: &TagName, name: &str) -> Result<Finding, AllocError> {
     let reason = format!(in alloc; "no data of this folder have the name `{name}`")?;
     warning_in(alloc, tag.file.as_str(), tag.place, reason)
@@ -73,13 +73,13 @@ impl Reading {
         self.folder.findings.append(&mut findings)
     }
 
-    /// The line that puts a name of a kind, 0 where a file does.
+    /// The line that puts a name of a kind; 0 if a file puts it, `None` if nothing does.
     fn line_of(&self, kind: Kind, name: &str) -> Result<Option<usize>, AllocError> {
         let key = key_of(self.alloc, kind, name)?;
         Ok(self.found.get(key.as_str()).copied())
     }
 
-    /// Finds the routes that name what isn't there.
+    /// Finds the routes that name what does not exist.
     fn check_routes(&self, findings: &mut Vec<Finding>) -> Result<(), AllocError> {
         for route in self.folder.routes.iter() {
             if self
@@ -98,7 +98,7 @@ impl Reading {
         Ok(())
     }
 
-    /// Where redirects lead, by their paths; those whose paths have a route left out.
+    /// The targets of redirects by their paths, except those whose paths have a route.
     fn targets(&self) -> Result<BTreeMap<String, String>, AllocError> {
         let mut targets = BTreeMap::new(self.alloc);
         for redirect in self.folder.redirects.iter() {
@@ -132,7 +132,7 @@ impl Reading {
         Ok(Some(format!(in self.alloc; "no route of this folder has the path {target}")?))
     }
 
-    /// Why nobody follows a redirect, as its path has a route, or why it leads to no page of the folder.
+    /// Why nobody follows a redirect, if its path has a route; or why it leads to no page of the folder.
     fn astray(
         &self,
         targets: &BTreeMap<String, String>,
@@ -173,7 +173,7 @@ impl Reading {
         Ok(())
     }
 
-    /// Warns of paths that differ by a slash at their end alone.
+    /// Warns of paths that differ only by a final slash.
     fn check_slashes(&self, findings: &mut Vec<Finding>) -> Result<(), AllocError> {
         for route in self.folder.routes.iter() {
             let Some(bare) = route.path.as_str().strip_suffix('/') else {
@@ -186,7 +186,7 @@ impl Reading {
         Ok(())
     }
 
-    /// Warns of partials that are called and aren't there.
+    /// Warns of partials that are called and do not exist.
     fn check_calls(&self, findings: &mut Vec<Finding>) -> Result<(), AllocError> {
         for call in self.calls.iter() {
             if self.line_of(Kind::Partial, call.name.as_str())?.is_none() {
@@ -208,7 +208,7 @@ impl Reading {
             && found.file.as_str().starts_with("data/"))
     }
 
-    /// Warns of names that no data have, where the folder has data, and all of them could be read.
+    /// Warns of names that no data have, if the folder has data and all of them could be read.
     fn check_names(&self, findings: &mut Vec<Finding>) -> Result<(), AllocError> {
         if !self.has_data || self.lacks_keys() {
             return Ok(());

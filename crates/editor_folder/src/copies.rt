@@ -2,7 +2,7 @@
 use std::alloc::{AllocError, Global};
 use std::collections::BTreeMap;
 
-/// The endings by which a path is a file's as it is.
+/// A path with one of these endings names its file as it is.
 const ENDINGS: [&str; 7] = [".html", ".css", ".js", ".json", ".svg", ".txt", ".xml"];
 
 /// Why a page has no file of its own.
@@ -10,18 +10,18 @@ const ENDINGS: [&str; 7] = [".html", ".css", ".js", ".json", ".svg", ".txt", ".x
 pub enum NoCopy {
     /// Its path has an empty part, `.` or `..`.
     NoPath,
-    /// Another page has its file, or a folder of that name, or a file where its folder would be.
+    /// Another page has its file, or a folder of that name, or a file in place of its folder.
     Taken,
 }
 
-/// What stands at a path of a static copy.
+/// What a path of a static copy is.
 #[derive(Clone, Copy, PartialEq, Eq)]
 enum Taken {
     File,
     Folder,
 }
 
-/// The files of a static copy, and the folders that they stand in.
+/// The files of a static copy, and the folders that they are in.
 #[derive(Drop)]
 pub struct Copies {
     alloc: Global,
@@ -34,7 +34,7 @@ fn has_parts(path: &str) -> bool {
         .all(|part| !part.is_empty() && part != "." && part != "..")
 }
 
-/// Whether a path is a file's as it is.
+/// Whether a path names its file as it is.
 fn names_file(path: &str) -> bool {
     ENDINGS.iter().any(|ending| path.ends_with(*ending))
 }
@@ -55,7 +55,7 @@ fn file_of(alloc: Global, path: &str) -> Result<Option<String>, AllocError> {
     }))
 }
 
-/// The folders in which a file stands, the outermost first.
+/// The folders that a file is in, the outermost first.
 fn folders_of(alloc: Global, file: &str) -> Result<Vec<String>, AllocError> {
     let mut folders = Vec::new(alloc);
     let mut folder = String::new(alloc);
@@ -78,7 +78,7 @@ impl Copies {
         }
     }
 
-    /// Whether a file is taken, or a file stands where one of its folders would.
+    /// Whether a file is taken, or one of its folders is taken by a file.
     fn is_taken(&self, file: &str, folders: &[String]) -> bool {
         if self.taken.contains_key(file) {
             return true;
@@ -91,7 +91,7 @@ impl Copies {
         false
     }
 
-    /// Notes what stands at a path.
+    /// Notes what a path is.
     fn mark(&mut self, path: &str, taken: Taken) -> Result<(), AllocError> {
         let path = String::from_str(self.alloc, path)?;
         drop(self.taken.insert(path, taken)?);
@@ -106,7 +106,7 @@ impl Copies {
         self.mark(file, Taken::File)
     }
 
-    /// Notes a file, unless it is taken. Whether it was free is the answer.
+    /// Notes a file, unless it is taken. The result says whether it was free.
     fn note_free(&mut self, file: &str) -> Result<bool, AllocError> {
         let folders = folders_of(self.alloc, file)?;
         if self.is_taken(file, &folders) {

@@ -1,4 +1,4 @@
-//! Where and why a text is no data.
+//! Where and why a text is not valid data.
 use serde_json::Value;
 use std::alloc::{AllocError, Global};
 
@@ -29,7 +29,7 @@ fn is_blank(b: u8) -> bool {
     matches!(b, b' ' | b'\t' | b'\n' | b'\r')
 }
 
-/// The last byte that is no blank, a space where there is none.
+/// The last byte that is not a blank; a space if there is none.
 fn last_of(bytes: &[u8]) -> u8 {
     bytes
         .iter()
@@ -49,17 +49,17 @@ fn is_start(b: u8) -> bool {
     matches!(b, b'"' | b'{' | b'[' | b'-' | b'0'..=b'9' | b'a'..=b'z' | b'A'..=b'Z')
 }
 
-/// Whether a value or a key is wanted after the byte.
+/// Whether a value or a key has to follow the byte.
 fn is_open(b: u8) -> bool {
     matches!(b, b'{' | b'[' | b',' | b':')
 }
 
-/// What no key or text begins with: `true`, `false` and `null` begin so.
+/// Whether the byte begins a word that lacks quotes: `true`, `false` and `null` need none.
 fn is_word(b: u8) -> bool {
     matches!(b, b'a'..=b'z' | b'A'..=b'Z' | b'_') && !matches!(b, b't' | b'f' | b'n')
 }
 
-/// Why a byte can't stand after what stands before it.
+/// Why a byte cannot follow the one before it.
 fn reason_at(alloc: Global, before: u8, here: u8) -> Result<String, AllocError> {
     let reason = match (before, here) {
         (b',', b'}' | b']') => "no JSON: the comma before this has to go",
@@ -79,7 +79,7 @@ fn reason_at(alloc: Global, before: u8, here: u8) -> Result<String, AllocError> 
     String::from_str(alloc, reason)
 }
 
-/// What texts and keys stand between.
+/// Says that texts and keys have double quotes.
 const NO_QUOTE: &str = "no JSON: texts and keys stand between double quotes";
 
 /// The quotes of word processors.
@@ -87,7 +87,7 @@ const QUOTES: [&str; 7] = [
     "\u{201c}", "\u{201d}", "\u{201e}", "\u{2018}", "\u{2019}", "\u{ab}", "\u{bb}",
 ];
 
-/// The quote of a word processor that stands at the front.
+/// The quote of a word processor at the front.
 fn quote_at(bytes: &[u8]) -> Option<&'static str> {
     QUOTES
         .iter()
@@ -111,7 +111,7 @@ fn is_escape(behind: &[u8]) -> bool {
     }
 }
 
-/// Why a text of JSON can't hold what stands at a byte; nothing where it can.
+/// Why a text of JSON cannot hold what is at a byte; `None` if it can.
 fn wrong_within(inside: Inside, behind: &[u8]) -> Option<&'static str> {
     match (inside, behind.first()) {
         (_, Some(0..=31)) => {
@@ -130,7 +130,7 @@ fn wrong_within(inside: Inside, behind: &[u8]) -> Option<&'static str> {
     }
 }
 
-/// Why the text is none that begins at a byte; nothing where none begins there, or it is one.
+/// Why the text that begins at a byte is invalid; `None` if no text begins there, or it is valid.
 fn text_slip(alloc: Global, bytes: &[u8], from: usize) -> Result<Option<Slip>, AllocError> {
     if bytes.get(from) != Some(&b'"') {
         return Ok(None);
@@ -149,7 +149,7 @@ fn text_slip(alloc: Global, bytes: &[u8], from: usize) -> Result<Option<Slip>, A
     Ok(Some(slip_at(alloc, bytes.len(), reason)?))
 }
 
-/// Why bytes are no JSON that a parser refuses at a place.
+/// Why bytes are invalid JSON, which a parser refuses at a place.
 fn refused_at(
     alloc: Global,
     bytes: &[u8],
@@ -175,7 +175,7 @@ fn refused_at(
     Ok(Slip { at, reason })
 }
 
-/// Why bytes that are no JSON are none.
+/// Where and why bytes are invalid JSON.
 pub(crate) fn json_slip(alloc: Global, bytes: &[u8]) -> Result<Slip, AllocError> {
     if bytes.starts_with(b"\xef\xbb\xbf") {
         let reason = "the file begins with a byte order mark: save it as UTF-8 without one";
@@ -200,7 +200,7 @@ fn is_whole(number: &str) -> bool {
     number != "-0" && (number.parse::<i64>().is_ok() || number.parse::<u64>().is_ok())
 }
 
-/// Where the reading of a text of JSON is: outside of its texts, in one, or after a backslash in one.
+/// Where a reader of JSON is: outside of texts, in a text, or after a backslash in one.
 #[derive(Clone, Copy, PartialEq, Eq)]
 pub(crate) enum Inside {
     Nothing,
@@ -208,7 +208,7 @@ pub(crate) enum Inside {
     Escape,
 }
 
-/// Where it is after the byte.
+/// Where the reader is after the byte.
 pub(crate) fn step(inside: Inside, b: u8) -> Inside {
     match (inside, b) {
         (Inside::Nothing, b'"') => Inside::Text,

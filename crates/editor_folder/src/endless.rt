@@ -2,10 +2,10 @@
 use std::alloc::{AllocError, Global};
 use std::collections::BTreeMap;
 
-/// So many redirects in a row browsers follow, and no more.
+/// The most redirects in a row that browsers follow.
 const FOLLOWED: usize = 20;
 
-/// Where so many redirects lead; nothing where fewer lead to what is none.
+/// Where `FOLLOWED` redirects lead; `None` if fewer lead to a path without a redirect.
 fn led_on<'a>(targets: &'a BTreeMap<String, String>, path: &'a str) -> Option<&'a str> {
     let mut at = path;
     for _ in 0..FOLLOWED {
@@ -14,7 +14,7 @@ fn led_on<'a>(targets: &'a BTreeMap<String, String>, path: &'a str) -> Option<&'
     Some(at)
 }
 
-/// Whether so many redirects lead back to a path.
+/// Whether at most `FOLLOWED` redirects lead back to a path.
 fn comes_back(targets: &BTreeMap<String, String>, path: &str) -> bool {
     let mut at = path;
     for _ in 0..FOLLOWED {
@@ -29,7 +29,7 @@ fn comes_back(targets: &BTreeMap<String, String>, path: &str) -> bool {
     false
 }
 
-/// Why browsers give up at the target of a redirect that leads on; nothing where they do not.
+/// Why browsers give up at the target of a redirect that leads on; `None` if they do not.
 pub(crate) fn endless(
     alloc: Global,
     targets: &BTreeMap<String, String>,

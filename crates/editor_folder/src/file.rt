@@ -1,4 +1,4 @@
-/// A file of a folder: its path below the folder, parted by `/`, and its bytes.
+/// A file of a folder: its path below the folder, with `/` between its parts, and its bytes.
 #[derive(Drop)]
 pub struct SiteFile {
     pub path: String,

@@ -1,17 +1,17 @@
 use crate::place::Place;
 use std::fmt;
 
-/// How much it matters.
+/// How much a finding matters.
 #[derive(Clone, Copy, Debug, PartialEq, Eq)]
 pub enum Weight {
     /// The folder can't be published.
     Fault,
-    /// It can, and its pages may not be what was meant.
+    /// The folder can be published, but its pages may not be what was meant.
     Warning,
 }
 
-/// What is wrong with a folder: in which file, where in it if that is known, why and what to do, and the line
-/// of fault by which the formats call it, if they do.
+/// What is wrong with a folder: in which file, where in it if that is known, why and what to do. `label` is
+/// the formats' own line for the fault, if they have one.
 #[derive(Drop)]
 pub struct Finding {
     pub weight: Weight,

@@ -34,7 +34,7 @@ pub struct Redirect {
     pub line: usize,
 }
 
-/// What a folder is: its commands in order, all but the release; its pages, and those that moved; and what is
+/// What a folder is: its commands in order, except the release; its pages, and those that moved; and what is
 /// wrong with it.
 #[derive(Drop)]
 pub struct Folder {
@@ -49,19 +49,19 @@ pub struct Folder {
 pub(crate) struct Reading {
     pub alloc: Global,
     pub folder: Folder,
-    /// What is put, a kind and a name each, parted by a space; and its line, 0 where a file puts it.
+    /// What is put, as a kind and a name with a space between; and its line, 0 if a file puts it.
     pub found: BTreeMap<String, usize>,
     /// What is removed, in the same way, and its line of `removes`.
     pub removed: BTreeMap<String, usize>,
     pub calls: Vec<TagName>,
     /// The names of values that templates and partials have.
     pub names: Vec<TagName>,
-    /// The keys of all data, whether there are any or not.
+    /// The keys of all data. `has_data` says whether there are data.
     pub keys: BTreeSet<String>,
     pub has_data: bool,
 }
 
-/// A kind and a name, parted by a space.
+/// A kind and a name, with a space between.
 pub(crate) fn key_of(alloc: Global, kind: Kind, name: &str) -> Result<String, AllocError> {
     let kind = kind_word(kind);
     format!(in alloc; "{kind} {name}")
@@ -91,7 +91,7 @@ impl Reading {
         Ok(())
     }
 
-    /// Takes a text as a command, unless it is none.
+    /// Takes a text as a command, or returns why it is not one.
     fn judge(&mut self, text: Vec<u8>) -> Result<Option<Refusal>, AllocError> {
         match FolderCommand::of(self.alloc, text)? {
             Ok(command) => {
@@ -102,20 +102,20 @@ impl Reading {
         }
     }
 
-    /// Takes the command of a file, by its head and the file's text, unless it is none.
+    /// Takes the command of a file, by its head and the file's text, or returns why it is not one.
     fn judge_file(&mut self, head: &str, body: &str) -> Result<Option<Refusal>, AllocError> {
         let mut text = Vec::from_slice(self.alloc, head.as_bytes())?;
         text.extend_from_slice(body.as_bytes())?;
         self.judge(text)
     }
 
-    /// A file that is no UTF-8 from a byte on.
+    /// Finds that a file is not UTF-8 from a byte on.
     fn no_text(&mut self, file: &SiteFile, at: usize) -> Result<(), AllocError> {
         let finding = no_text(self.alloc, file.path.as_str(), &file.bytes, at)?;
         self.find(finding)
     }
 
-    /// Takes the command of a file, or finds why it is none. Whether it is one is the answer.
+    /// Takes the command of a file, or finds why it is not one. The result says whether it is one.
     fn judge_body(&mut self, path: &str, head: &str, body: &str) -> Result<bool, AllocError> {
         match self.judge_file(head, body)? {
             Some(refusal) => {
@@ -173,7 +173,7 @@ impl Reading {
         self.find(finding)
     }
 
-    /// Takes the command of a line of `routes`, unless it is none.
+    /// Takes the command of a line of `routes`, or returns why it is not one.
     fn judge_route(&mut self, route: &RouteLine<'_>) -> Result<Option<Refusal>, AllocError> {
         let (path, template, page_data) = (route.path, route.template, route.page_data);
         let text = format!(in self.alloc; "put route {path} {template} {page_data}\n")?;
@@ -207,7 +207,7 @@ impl Reading {
         self.twice("routes", Kind::Route, route.path, line.number)
     }
 
-    /// Takes the command of a line of `redirects`, unless it is none.
+    /// Takes the command of a line of `redirects`, or returns why it is not one.
     fn judge_redirect(
         &mut self,
         redirect: &RedirectLine<'_>,
@@ -239,7 +239,7 @@ impl Reading {
         self.twice("redirects", Kind::Redirect, redirect.path, line.number)
     }
 
-    /// Notes the line of a path, and finds one that had it before.
+    /// Notes the line of a path, and finds an earlier line with that path.
     fn twice(&mut self, file: &str, kind: Kind, path: &str, line: usize) -> Result<(), AllocError> {
         let key = key_of(self.alloc, kind, path)?;
         if let Some(before) = self.found.insert(key, line)? {
@@ -252,7 +252,7 @@ impl Reading {
         Ok(())
     }
 
-    /// Takes the command of a line of `removes`, unless it is none.
+    /// Takes the command of a line of `removes`, or returns why it is not one.
     fn judge_removal(&mut self, kind: Kind, name: &str) -> Result<Option<Refusal>, AllocError> {
         let word = kind_word(kind);
         let text = format!(in self.alloc; "remove {word} {name}\n")?;
@@ -320,7 +320,7 @@ impl Reading {
         Ok(())
     }
 
-    /// Takes a file by its role, where it is of this pass.
+    /// Takes a file by its role, if it is of this pass.
     fn file(&mut self, pass: Pass, file: &SiteFile) -> Result<(), AllocError> {
         match (pass, role_of(file.path.as_str())) {
             (Pass::Texts(of), Role::Text(kind, name)) if of == kind => self.text(kind, name, file),
@@ -373,12 +373,12 @@ const PASSES: [Pass; 7] = [
     Pass::Others,
 ];
 
-/// Why the command of a line of `redirects` is none, and what to do.
+/// Why the command of a line of `redirects` is invalid, and what to do.
 const REDIRECT_REASON: &str =
     "a path and its target begin with /, with neither /_ nor /@, have 200 bytes at most, and no blank; a \
      target begins with one / alone";
 
-/// Why a line's command is none, and what to do.
+/// Why a line's command is invalid, and what to do.
 fn line_reason(fault: &CommandFault) -> &'static str {
     match fault {
         CommandFault::Path => {
@@ -388,7 +388,7 @@ fn line_reason(fault: &CommandFault) -> &'static str {
     }
 }
 
-/// Reads a folder: all its commands, and all that is wrong with it. What is no command is none of them.
+/// Reads a folder: all its commands, and all that is wrong with it. Texts that are not commands are left out.
 pub fn folder_of(alloc: Global, files: &[SiteFile]) -> Result<Folder, AllocError> {
     let mut reading = Reading::new(alloc);
     reading.files(files)?;

@@ -6,7 +6,7 @@ use crate::judging::{Refusal, refused};
 use std::alloc::{AllocError, Global};
 use std::marker::Model;
 
-/// A command of a folder: a text that is one.
+/// A command of a folder: a text that is a command.
 #[derive(Drop)]
 pub struct FolderCommand {
     text: Vec<u8>,
@@ -24,7 +24,7 @@ impl Model for FolderCommand {
 }
 
 impl FolderCommand {
-    /// The command of a text, or why that is none.
+    /// The command of a text, or why the text is not one.
     pub(crate) fn of(
         alloc: Global,
         text: Vec<u8>,

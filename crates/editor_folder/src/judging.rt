@@ -13,14 +13,14 @@ const NOBODYS: Ticket = Ticket {
     number: 0,
 };
 
-/// Why a text is no command: its fault, and the fault's line.
+/// Why a text is not a command: its fault, and the fault's line.
 #[derive(Drop)]
 pub struct Refusal {
     pub fault: CommandFault,
     pub line: String,
 }
 
-/// A fault with its line; want of memory has none.
+/// A fault with its line. A failed allocation has no line.
 fn refusal_of(alloc: Global, fault: CommandFault) -> Result<Refusal, AllocError>
     requires { fault ≢ CommandFault.OutOfMemory → HasLine fault }
     ensures { IfOk result (λ r. (fault ≢ CommandFault.OutOfMemory) × (r.fault ≡ fault)
@@ -35,7 +35,7 @@ fn refusal_of(alloc: Global, fault: CommandFault) -> Result<Refusal, AllocError>
     }
 }
 
-/// Why the text is no command; nothing where it is one.
+/// Why the text is not a command; `None` if it is one.
 pub fn refused(alloc: Global, text: &[u8]) -> Result<Option<Refusal>, AllocError>
     ensures { IfOk result (λ o. MatchOption o (IsCommandText text.now) (λ r. IsRefused text.now r)) }
 {

@@ -3,7 +3,8 @@ use crate::data_reasons::{Inside, step};
 use serde_json::Value;
 use std::alloc::{AllocError, Global};
 
-/// A key: its name, the byte at which its quote stands, and the number of its object, by where these begin.
+/// A key: its name, the byte of its first quote, and the number of its object, in the order in which objects
+/// begin.
 #[derive(Drop)]
 pub(crate) struct Key {
     pub name: String,
@@ -11,7 +12,7 @@ pub(crate) struct Key {
     pub object: usize,
 }
 
-/// The text that a literal spells, which stands between its quotes.
+/// The text that a literal spells. The literal has its quotes.
 fn name_in(alloc: Global, literal: &str) -> Result<String, AllocError> {
     if !literal.contains('\\') {
         return String::from_str(alloc, literal.trim_matches('"'));
@@ -23,8 +24,7 @@ fn name_in(alloc: Global, literal: &str) -> Result<String, AllocError> {
     }
 }
 
-/// Where the reading of a text of JSON is: the last text that ended, and the objects that are open, the
-/// innermost last.
+/// How far a reader of JSON is: the last text that ended, and the objects that are open, the innermost last.
 #[derive(Drop)]
 struct Walk<'a> {
     alloc: Global,
@@ -58,7 +58,7 @@ impl Walk<'_> {
         Ok(())
     }
 
-    /// Takes a byte that stands outside of texts.
+    /// Takes a byte outside of texts.
     fn take_outside(&mut self, at: usize, b: u8) -> Result<(), AllocError> {
         match b {
             b'"' => self.from = at,

@@ -1,8 +1,8 @@
-//! Which limit a page passes that is over limit, and what to do.
+//! Which limit a page exceeds that is over limit, and what to do.
 //!
-//! A node says no more than that it is: those words are a format's. A page passes how deep partials may nest,
-//! or what it may cost; so where its partials cannot nest that deep, as the calls stand in the folder's
-//! files, it is the cost.
+//! A node says only that a page is over limit: a format fixes its words. A page exceeds the depth to which
+//! partials may nest, or the cost that it may have. If its partials cannot nest that deep, by the calls in
+//! the folder's files, it is the cost.
 ghost use Rattle.std.specs.Prelude.{◌≡◌};
 ghost use Rattle.render.specs.Meaning.{max_nested};
 
@@ -18,7 +18,7 @@ fn most_nested() -> usize
     32
 }
 
-/// A template or a partial of a folder: its kind and name, parted by a space, and its text.
+/// A template or a partial of a folder: its kind and name with a space between, and its text.
 #[derive(Clone, Copy)]
 struct Source<'a> {
     key: &'a str,
@@ -66,7 +66,7 @@ fn partial_named(
     Ok(numbers.get(key.as_str()).copied())
 }
 
-/// The partials that a source calls, those that aren't there left out.
+/// The partials that a source calls, except those that do not exist.
 fn called(alloc: Global, numbers: &Numbers, source: &Source<'_>) -> Result<Vec<usize>, AllocError> {
     let mut partials = Vec::new(alloc);
     for call in calls_of(alloc, source.text)?.iter() {
@@ -77,7 +77,7 @@ fn called(alloc: Global, numbers: &Numbers, source: &Source<'_>) -> Result<Vec<u
     Ok(partials)
 }
 
-/// How deep partials nest below one that calls these, where they nest so deep below each.
+/// How deep partials nest below one that calls `partials`. `depths` says how deep they nest below each.
 fn depth_above(partials: &[usize], depths: &[usize]) -> usize {
     let mut deepest = 0usize;
     for number in partials {
@@ -87,7 +87,7 @@ fn depth_above(partials: &[usize], depths: &[usize]) -> usize {
     deepest
 }
 
-/// The same of all, one level further down.
+/// The same for all sources, one level deeper.
 fn depths_above(
     alloc: Global,
     calls: &[Vec<usize>],
@@ -100,8 +100,8 @@ fn depths_above(
     Ok(above)
 }
 
-/// How deep partials can nest below each source: deeper than there are sources where one comes to call
-/// itself.
+/// How deep partials can nest below each source. The depth exceeds the number of sources if a partial comes
+/// to call itself.
 fn depths_of(alloc: Global, calls: &[Vec<usize>]) -> Result<Vec<usize>, AllocError> {
     let mut depths = vec![in alloc; 0usize; calls.len()]?;
     for _ in 0..=calls.len() {
@@ -145,7 +145,7 @@ impl<'a> Nesting<'a> {
         self.sources.len()
     }
 
-    /// The kind and the name of a number, parted by a space.
+    /// The kind and the name of a number, with a space between.
     pub(crate) fn key(&self, number: usize) -> &'a str {
         match self.sources.get(number) {
             Some(source) => source.key,
@@ -153,7 +153,7 @@ impl<'a> Nesting<'a> {
         }
     }
 
-    /// The number of a template, where it is there.
+    /// The number of a template, if it exists.
     pub(crate) fn template(&self, alloc: Global, name: &str) -> Result<Option<usize>, AllocError> {
         let key = format!(in alloc; "template {name}")?;
         Ok(self.numbers.get(key.as_str()).copied())
@@ -176,8 +176,8 @@ impl<'a> Nesting<'a> {
         self.depth(number) > self.sources.len()
     }
 
-    /// The first partial that a source calls below which they can nest without end; itself where there is
-    /// none.
+    /// The first partial that a source calls and below which partials can nest without end; the source itself
+    /// if there is none.
     fn endless_within(&self, number: usize) -> usize {
         for partial in self.called_by(number) {
             if self.is_endless(*partial) {
@@ -187,8 +187,8 @@ impl<'a> Nesting<'a> {
         number
     }
 
-    /// A partial that comes to call itself, below a source where they can nest without end: after as many
-    /// steps as there are sources one came twice.
+    /// A partial that comes to call itself, below a source under which partials can nest without end. After
+    /// as many steps as there are sources, one came twice.
     fn round_below(&self, number: usize) -> &'a str {
         let mut at = number;
         for _ in 0..self.sources.len() {
@@ -219,7 +219,7 @@ impl<'a> Nesting<'a> {
     }
 }
 
-/// That a page costs too much, and what to do.
+/// Says that a page costs too much, and what to do.
 const COST: &str =
     "it costs more than 1,000,000 (each tag, each item of a list and each byte printed is 1): part it, or \
      shorten its lists";

@@ -2,7 +2,7 @@
 use command::Kind;
 use std::alloc::{AllocError, Global};
 
-/// The text before a mark, all of it where the mark isn't there.
+/// The text before a mark; all of it if the text has no mark.
 pub(crate) fn before(text: &str, mark: char) -> &str {
     match text.split_once(mark) {
         Some((front, _)) => front,
@@ -25,8 +25,8 @@ pub(crate) struct Line<'a> {
     pub number: usize,
 }
 
-/// The lines of a text that say something: neither empty nor a comment, which begins with `#`. Words are
-/// parted by any blanks, and a carriage return is one.
+/// The lines of a text that say something: neither empty nor a comment, which begins with `#`. Blanks
+/// separate words, and a carriage return is a blank.
 pub(crate) fn lines_in(alloc: Global, text: &str) -> Result<Vec<Line<'_>>, AllocError> {
     let mut found = Vec::new(alloc);
     for (i, line) in text.split('\n').enumerate() {
@@ -82,7 +82,7 @@ fn kind_in(word: &str) -> Option<Kind> {
     }
 }
 
-/// What a line of `removes` says: a kind and a name, of a route or a redirect its path.
+/// What a line of `removes` says: a kind and a name, which is the path of a route or a redirect.
 pub(crate) fn removal_in<'a>(line: &Line<'a>) -> Option<(Kind, &'a str)> {
     match line.words.as_slice() {
         [word, name] => Some((kind_in(*word)?, *name)),

@@ -1,4 +1,4 @@
-//! The pages of a folder, as a node shows them; those that moved as files that lead on.
+//! The pages of a folder, as a node shows them. A page that moved is a file that leads on.
 use crate::finding::Finding;
 use crate::folder::{Folder, Redirect, Route};
 use crate::limits::Nesting;
@@ -22,7 +22,7 @@ pub struct Page {
     pub body: String,
 }
 
-/// The releases of a text after those before, under the next ticket. Past the last instance nothing is fed.
+/// Feeds a text to the releases, under the next ticket. After the last instance it feeds nothing.
 pub(crate) fn feed(alloc: Global, releases: &mut Releases, text: &[u8]) -> Result<(), AllocError> {
     let number = releases.len() as u64;
     if number < u64::from(MAX_INSTANCE) {
@@ -32,7 +32,7 @@ pub(crate) fn feed(alloc: Global, releases: &mut Releases, text: &[u8]) -> Resul
     Ok(())
 }
 
-/// The page at a path of the first release; nothing where there is none.
+/// The page at a path of the first release; `None` if there is no release.
 pub(crate) fn page_at(releases: &Releases, path: &str) -> Result<Option<Answer>, AllocError> {
     match releases.answer(1, path) {
         Ok(answer) => Ok(Some(answer)),
@@ -49,7 +49,7 @@ fn feed_folder(alloc: Global, releases: &mut Releases, folder: &Folder) -> Resul
     feed(alloc, releases, b"release\n")
 }
 
-/// The release of a folder's commands alone.
+/// A release of only the folder's commands.
 pub fn release_of(alloc: Global, folder: &Folder) -> Result<Releases, AllocError> {
     let mut releases = Releases::new(alloc);
     match feed_folder(alloc, &mut releases, folder) {
@@ -89,7 +89,7 @@ fn push_routes(
     Ok(())
 }
 
-/// Adds the page of a redirect, by what is shown at its path: where that leads on, a file that does so.
+/// Adds the page of a redirect, by what is shown at its path: if that leads on, a file that does so.
 fn push_redirect(
     alloc: Global,
     redirect: &Redirect,
@@ -131,7 +131,7 @@ fn pages_in(alloc: Global, folder: &Folder, releases: &Releases) -> Result<Vec<P
     Ok(pages)
 }
 
-/// The same once its commands are fed.
+/// The same, after its commands are fed.
 fn pages_by(
     alloc: Global,
     folder: &Folder,
@@ -141,8 +141,8 @@ fn pages_by(
     pages_in(alloc, folder, releases)
 }
 
-/// The pages of a folder in a release of its commands alone: of its routes, then of its redirects whose paths
-/// have no route, each in order.
+/// The pages of a folder in a release of only its commands: first of its routes, then of its redirects whose
+/// paths have no route, each in order.
 pub fn pages_of(alloc: Global, folder: &Folder) -> Result<Vec<Page>, AllocError> {
     let mut releases = Releases::new(alloc);
     let pages = pages_by(alloc, folder, &mut releases);
@@ -151,7 +151,7 @@ pub fn pages_of(alloc: Global, folder: &Folder) -> Result<Vec<Page>, AllocError>
 }
 
 impl Page {
-    /// Whether there is a page at the path, be it one that leads on.
+    /// Whether there is a page at the path, or a redirect.
     fn is_shown(&self) -> bool {
         self.status == 200 || self.status == 301
     }
@@ -172,7 +172,7 @@ fn template_of<'a>(folder: &'a Folder, page: &Page) -> &'a str {
     ""
 }
 
-/// Why a page is none: in a node's words, and where it passes a limit which one.
+/// Why there is no page, in a node's words; and if a page exceeds a limit, which one.
 fn page_reason(
     alloc: Global,
     folder: &Folder,
@@ -187,7 +187,7 @@ fn page_reason(
     format!(in alloc; "{path}: {refusal}: {reason}")
 }
 
-/// Adds what is wrong with each page that is none.
+/// Adds what is wrong with each page that is not shown.
 fn push_faults(
     alloc: Global,
     folder: &Folder,
@@ -204,7 +204,7 @@ fn push_faults(
     Ok(())
 }
 
-/// What is wrong with those of a folder's pages that are none: neither shown nor moved.
+/// What is wrong with those pages of a folder that are neither shown nor moved.
 pub fn page_faults(
     alloc: Global,
     folder: &Folder,

@@ -28,7 +28,7 @@ fn leads_in(bytes: &[u8]) -> usize
     bytes.iter().filter(|b| is_lead(**b)).count()
 }
 
-/// How many characters stand after the last newline.
+/// How many characters follow the last newline.
 fn characters_behind(bytes: &[u8]) -> usize
     ensures { result ≡ count_by is_lead (take_while (λ b. not (b == 10)) (reverse bytes.now)) }
 {
@@ -40,7 +40,7 @@ fn characters_behind(bytes: &[u8]) -> usize
         .count()
 }
 
-/// Where the byte of that number stands. A number past the text's end stands for the end.
+/// The place of the byte with this number. A number past the text's end counts as the end.
 pub fn place_of(text: &[u8], at: usize) -> Place
     ensures line { result.line ≡ line_of text.now at }
     ensures column { result.column ≡ column_of text.now at }
@@ -52,7 +52,7 @@ pub fn place_of(text: &[u8], at: usize) -> Place
     }
 }
 
-/// The place after a part of a text, by that before it.
+/// The place after a part of a text, by the place before it.
 fn place_behind(before: Place, part: &[u8]) -> Place
     requires line { before.line + length part.now < 2 ^ 64 }
     requires column { before.column + length part.now < 2 ^ 64 }
@@ -73,8 +73,8 @@ fn place_behind(before: Place, part: &[u8]) -> Place
     }
 }
 
-/// Where the byte of that number stands, by the place of another one. Where that comes first, what lies
-/// between is looked at alone.
+/// The place of the byte with this number, by the place of another byte. If the other comes first, only what
+/// is between them is read.
 pub(crate) fn place_past(text: &[u8], from: usize, place: Place, at: usize) -> Place
     requires from_line { place.line ≡ line_of text.now from }
     requires from_column { place.column ≡ column_of text.now from }

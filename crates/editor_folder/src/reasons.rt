@@ -1,4 +1,4 @@
-//! Why a file's text is no command, for people.
+//! Why a file's text is not a command, for people.
 use crate::data_reasons::{json_slip, number_slip};
 use crate::finding::{Finding, Weight};
 use crate::judging::Refusal;
@@ -9,7 +9,7 @@ use context::DataFault;
 use site_ids::{MAX_VALUE, TICKET_BYTES};
 use std::alloc::{AllocError, Global};
 
-/// What is wrong with a file; the formats know nothing of it where it has no label.
+/// What is wrong with a file. The formats do not know the fault if it has no label.
 fn finding(
     alloc: Global,
     weight: Weight,
@@ -28,7 +28,7 @@ fn finding(
     })
 }
 
-/// A fault of a file, of which the formats know nothing.
+/// A fault of a file that the formats do not know.
 pub(crate) fn fault_in(
     alloc: Global,
     file: &str,
@@ -66,7 +66,7 @@ pub(crate) fn file_warning(alloc: Global, file: &str, reason: &str) -> Result<Fi
     finding(alloc, Weight::Warning, file, None, reason, None)
 }
 
-/// The bytes of a file that are no UTF-8, by the first.
+/// A fault of a file that is not UTF-8, at the first wrong byte.
 pub(crate) fn no_text(
     alloc: Global,
     file: &str,
@@ -81,12 +81,12 @@ pub(crate) fn no_text(
     )
 }
 
-/// How long a file may be whose command begins with so many bytes.
+/// How long a file may be whose command has `head` bytes before its text.
 fn room(head: usize) -> usize {
     MAX_VALUE.saturating_sub(TICKET_BYTES).saturating_sub(head)
 }
 
-/// Where and why a file's text is no command, which begins with so many bytes and then has that text.
+/// Where and why a file's text is not a command. The command has `head` bytes, then the text.
 fn place_and_reason(
     alloc: Global,
     head: usize,
@@ -127,7 +127,7 @@ fn place_and_reason(
     Ok(told)
 }
 
-/// What is wrong with a file, whose command begins with so many bytes and then has the file's text.
+/// What is wrong with a file, whose command has `head` bytes, then the file's text.
 pub(crate) fn file_fault(
     alloc: Global,
     file: &str,

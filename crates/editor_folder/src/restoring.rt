@@ -4,7 +4,7 @@ use crate::lines::before;
 use std::alloc::{AllocError, Global};
 use std::collections::BTreeSet;
 
-/// What a text puts: its kind, its name or its path, and what stands after that.
+/// What a text puts: its kind, its name or its path, and what follows that.
 #[derive(Clone, Copy)]
 struct Put<'a> {
     kind: &'a str,
@@ -26,7 +26,7 @@ fn put_in(text: &str) -> Option<Put<'_>> {
     }
 }
 
-/// The path of the file that has a text of its own, if that is one.
+/// The path of the file for what is put; `None` if that has no file of its own.
 fn path_of(alloc: Global, put: Put<'_>) -> Result<Option<String>, AllocError> {
     let name = put.name;
     Ok(Some(match put.kind {
@@ -37,7 +37,7 @@ fn path_of(alloc: Global, put: Put<'_>) -> Result<Option<String>, AllocError> {
     }))
 }
 
-/// What stands after the first line of a text.
+/// What follows the first line of a text.
 fn body_of(text: &str) -> &str {
     match text.split_once('\n') {
         Some((_, body)) => body,
@@ -68,7 +68,7 @@ fn push_bodies(alloc: Global, files: &mut Vec<SiteFile>, texts: &[&str]) -> Resu
     Ok(())
 }
 
-/// The lines of what texts put of a kind, by their bytes.
+/// The lines for what texts put of a kind, sorted by their bytes.
 fn lines_of(alloc: Global, texts: &[&str], kind: &str) -> Result<BTreeSet<String>, AllocError> {
     let mut lines = BTreeSet::new(alloc);
     for text in texts {
@@ -82,7 +82,7 @@ fn lines_of(alloc: Global, texts: &[&str], kind: &str) -> Result<BTreeSet<String
     Ok(lines)
 }
 
-/// Adds the file of the lines that texts put of a kind, where there are some.
+/// Adds the file of the lines for what texts put of a kind, if there are some.
 fn push_lines(
     alloc: Global,
     files: &mut Vec<SiteFile>,
@@ -100,8 +100,8 @@ fn push_lines(
     push(alloc, files, String::from_str(alloc, path)?, body.as_str())
 }
 
-/// The files of a folder that puts what these texts put: lines of `routes` and `redirects` by their bytes.
-/// What texts remove has no file.
+/// The files of a folder that puts what these texts put. The lines of `routes` and `redirects` are sorted by
+/// their bytes. What texts remove has no file.
 pub fn files_of(alloc: Global, texts: &[&str]) -> Result<Vec<SiteFile>, AllocError> {
     let mut files = Vec::new(alloc);
     push_bodies(alloc, &mut files, texts)?;

@@ -12,22 +12,22 @@ pub(crate) enum Role<'a> {
     Removes,
     /// What an editor keeps of what was published.
     Published,
-    /// No part of a site, and meant so: a name with a dot before it or a `~` after it, or a `README`.
+    /// Not part of a site on purpose: a name that begins with a dot or ends in `~`, or a `README`.
     PassedOver,
-    /// No part of a site, and why.
+    /// Not part of a site, and why.
     Wrong(&'static str),
 }
 
-/// Why a file with a line break in its name is no part of a site.
+/// Why a file with a line break in its name is not part of a site.
 const BROKEN: &str = "has a line break in its name: rename the file";
 
-/// Whether a name in a path says that a file is none of the site's.
+/// Whether a name in a path says that a file is not part of the site.
 fn is_hidden(name: &str) -> bool {
     name.starts_with('.') || name.ends_with('~')
 }
 
-/// Whether the file or folder at a path below a site's folder is none of the site's, and meant so: a name in
-/// it begins with a dot or ends in `~`, or it is a `README`.
+/// Whether the file or folder at a path below a site's folder is not part of the site on purpose: a name in
+/// the path begins with a dot or ends in `~`, or it is a `README`.
 pub fn is_passed_over(path: &str) -> bool {
     path.starts_with("README") || path.split('/').any(|name| is_hidden(name))
 }
@@ -91,7 +91,7 @@ pub fn is_of_site(path: &str) -> bool {
     )
 }
 
-/// Whether files of a site stand in the folder at a path below its folder, or further below.
+/// Whether the folder at a path below a site's folder is for files of the site, in it or further below.
 pub fn is_part(path: &str) -> bool {
     matches!(before(path, '/'), "templates" | "partials" | "data")
 }

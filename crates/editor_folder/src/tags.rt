@@ -18,7 +18,7 @@ pub(crate) struct TagName {
 /// Where a text begins.
 const START: Place = Place { line: 1, column: 1 };
 
-/// Adds tags of a file's text, which come in its order.
+/// Adds the tags of a file's text, which come in the order of the text.
 pub(crate) fn push_tags(
     alloc: Global,
     tags: &mut Vec<TagName>,
@@ -41,20 +41,20 @@ pub(crate) fn push_tags(
     Ok(())
 }
 
-/// Whether the object of a key had none of that name before.
+/// Whether a key is the first of its name in its object.
 fn is_new(alloc: Global, before: &mut BTreeSet<String>, key: &Key) -> Result<bool, AllocError> {
     let (object, name) = (key.object, key.name.as_str());
     Ok(before.insert(format!(in alloc; "{object} {name}")?)?)
 }
 
-/// A key stands twice in one object.
+/// A key occurs twice in one object.
 fn doubled_key(alloc: Global, path: &str, place: Place, key: &Key) -> Result<Finding, AllocError> {
     let name = key.name.as_str();
     let reason = format!(in alloc; "the key `{name}` stands twice here: the later value counts")?;
     warning_in(alloc, path, place, reason)
 }
 
-/// The keys that stand twice in one object, of keys in the order of their text.
+/// Finds the keys that occur twice in one object. `keys` come in the order of the text.
 pub(crate) fn doubled_keys(
     alloc: Global,
     path: &str,

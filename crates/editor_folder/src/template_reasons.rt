@@ -1,4 +1,4 @@
-//! Why a text is no template, by the names of its sections.
+//! Why a text is not a template, by the names of its sections.
 use crate::place::place_of;
 use mustache_scan::{FaultKind, TemplateFault, Token, TokenKind, scan};
 use std::alloc::{AllocError, Global};
@@ -67,7 +67,7 @@ fn unclosed(alloc: Global, tokens: &[Token<'_>], place: usize) -> Result<String,
     }
 }
 
-/// A fault of nesting, by the tokens that it is of.
+/// Why sections nest wrongly, by the tokens of the text.
 fn nesting_reason(alloc: Global, source: &str, fault: TemplateFault) -> Result<String, AllocError> {
     let Ok(tokens) = scan(alloc, source) else {
         return Err(AllocError);
@@ -82,7 +82,7 @@ fn nesting_reason(alloc: Global, source: &str, fault: TemplateFault) -> Result<S
     }
 }
 
-/// Whether the tag at a place, which two braces end, has one brace alone before these.
+/// Whether the tag at a place has a single brace before the two that end it.
 fn has_one_brace(source: &str, place: usize) -> bool {
     let behind = source.get(place..).unwrap_or("");
     match behind.split_once("}}") {
@@ -91,7 +91,7 @@ fn has_one_brace(source: &str, place: usize) -> bool {
     }
 }
 
-/// Why the text is no template, and what to do.
+/// Why the text is not a template, and what to do.
 pub(crate) fn template_reason(
     alloc: Global,
     source: &str,

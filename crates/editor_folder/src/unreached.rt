@@ -1,8 +1,8 @@
 //! Paths that a link has to spell otherwise.
 use std::alloc::{AllocError, Global};
 
-/// A mark that browsers read as something else than a part of a path: what a link has to write for it, and as
-/// what they read it.
+/// The marks that browsers do not read as part of a path: what a link has to write for each, and what
+/// browsers read it as.
 const MARKS: [(char, &str, &str); 3] = [
     ('?', "%3F", "where a query begins"),
     ('#', "%23", "where a place in the page begins"),
@@ -13,7 +13,7 @@ const MARKS: [(char, &str, &str); 3] = [
     ),
 ];
 
-/// Why a path is not what a browser asks for where a link has it; nothing where it is.
+/// Why a browser does not ask for a path as a link spells it; `None` if it does.
 pub(crate) fn mark_in(alloc: Global, path: &str) -> Result<Option<String>, AllocError> {
     for (mark, spelling, what) in MARKS {
         if path.contains(mark) {

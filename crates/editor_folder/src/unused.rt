@@ -1,4 +1,4 @@
-//! What no page of a folder comes to.
+//! What no page of a folder reaches.
 use crate::finding::Finding;
 use crate::folder::Folder;
 use crate::folder_command::FolderCommand;
@@ -7,8 +7,8 @@ use crate::reasons::file_warning;
 use std::alloc::{AllocError, Global};
 use std::collections::BTreeSet;
 
-/// Which templates and partials a folder's pages come to, by their numbers; and those of them whose calls are
-/// still to be followed.
+/// Which templates and partials a folder's pages reach, by their numbers; and those whose calls are still to
+/// be followed.
 #[derive(Drop)]
 struct Reached {
     is: Vec<bool>,
@@ -16,7 +16,7 @@ struct Reached {
 }
 
 impl Reached {
-    /// Notes that pages come to a number. Its calls are followed once.
+    /// Notes that pages reach a number. Its calls are followed once.
     fn note(&mut self, number: usize) -> Result<(), AllocError> {
         if let Some(is) = self.is.get_mut(number) {
             if !*is {
@@ -45,7 +45,7 @@ impl Reached {
     }
 }
 
-/// What the pages of a folder come to.
+/// What the pages of a folder reach.
 fn all_reached(
     alloc: Global,
     folder: &Folder,
@@ -64,7 +64,7 @@ fn all_reached(
     Ok(reached)
 }
 
-/// The file that a kind and a name stand for, parted by a space.
+/// The file of a kind and a name, which have a space between.
 fn file_of(alloc: Global, key: &str) -> Result<String, AllocError> {
     match key.split_once(' ') {
         Some(("template", name)) => format!(in alloc; "templates/{name}.mustache"),
@@ -80,7 +80,7 @@ fn unused(alloc: Global, key: &str) -> Result<Finding, AllocError> {
     file_warning(alloc, file.as_str(), "no page of this folder comes to it")
 }
 
-/// Adds the templates and partials to which no page comes.
+/// Adds the templates and partials that no page reaches.
 fn push_sources(
     alloc: Global,
     folder: &Folder,
@@ -134,7 +134,7 @@ fn push_data(
     Ok(())
 }
 
-/// Warns of the templates, the partials and the data of a folder to which none of its pages comes.
+/// Warns of the templates, the partials and the data of a folder that none of its pages reaches.
 pub fn unused_of(alloc: Global, folder: &Folder) -> Result<Vec<Finding>, AllocError> {
     let mut findings = Vec::new(alloc);
     push_sources(alloc, folder, &mut findings)?;

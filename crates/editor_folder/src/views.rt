@@ -38,14 +38,14 @@ fn push_views(
     Ok(())
 }
 
-/// What is shown at paths, one view a path, in order.
+/// What is shown at paths, one view for each path, in order.
 fn views_in(alloc: Global, releases: &Releases, paths: &[String]) -> Result<Vec<View>, AllocError> {
     let mut views = Vec::new(alloc);
     push_views(releases, paths, &mut views)?;
     Ok(views)
 }
 
-/// The same once these command texts are fed.
+/// The same, after these command texts are fed.
 fn views_by(
     alloc: Global,
     releases: &mut Releases,
@@ -56,7 +56,7 @@ fn views_by(
     views_in(alloc, releases, paths)
 }
 
-/// What a node shows at paths, in a release of these command texts alone: one view a path, in order.
+/// What a node shows at paths, in a release of only these command texts: one view for each path, in order.
 pub fn views_of(alloc: Global, texts: &[&str], paths: &[String]) -> Result<Vec<View>, AllocError> {
     let mut releases = Releases::new(alloc);
     let views = views_by(alloc, &mut releases, texts, paths);
@@ -64,7 +64,7 @@ pub fn views_of(alloc: Global, texts: &[&str], paths: &[String]) -> Result<Vec<V
     views
 }
 
-/// The path that a command text is about, where it is about a route or a redirect.
+/// The path that a command text is about, if it is about a route or a redirect.
 pub fn path_in(text: &str) -> Option<&str> {
     let mut words = before(text, '\n').split(' ');
     let kind = words.nth(1)?;

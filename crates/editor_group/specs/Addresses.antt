@@ -40,7 +40,7 @@ pub record HasHost (text : List ℕ) : Type 0 where
 abbrev pub IsAt : List ℕ → List ℕ → Type 0
 IsAt host whole = (whole ≡ host) ⊎ (whole ≡ host ++ codes ":80")
 
--- after `http://` stands who is asked there, and as whom; it is shown without the login
+-- after `http://` the URL says who is asked there, and with which login; it is shown without the login
 pub record Names (url : List ℕ) (node : Address) : Type 0 where
   pub text : List ℕ
   pub http : IsHttp url text
@@ -53,7 +53,7 @@ pub record Names (url : List ℕ) (node : Address) : Type 0 where
 abbrev pub NamesNone : List ℕ → Type 0
 NamesNone url = (text : List ℕ) → IsHttp url text → ¬ HasHost text
 
--- an allocation failed, or the URL names no node, which words say
+-- an allocation failed, or the URL names no node, and words say so
 abbrev pub IsRefused : List ℕ → EditorFault → Type 0
 IsRefused url why = (why ≡ OutOfMemory) ⊎ (IsStopOrMemory why × NamesNone url)
 

@@ -12,8 +12,8 @@ use Rattle.editor_plan.specs.declared.standing.Witness.{Witness}
 use Rattle.editor_group.specs.declared.judging.Look.{Look}
 use Rattle.editor_group.specs.declared.judging.Look.TheVariants.{Confirmed, Refused}
 
--- so many nodes were asked, and by what they said a ledger stands so: this was the last ticket that has its
--- receipt, and that the newest release that was shown of its folder
+-- n nodes were asked, and by what they said the ledger has this standing; `last` was the last ticket that
+-- has its receipt, and `shown` the newest release that was shown of its folder
 abbrev pub Stands : ℕ → ℕ → ℕ → Standing → Type 0
 Stands n last shown standing =
     (said : List Witness) × (length said ≡ n) × (standing ≡ standing_of last shown said)
@@ -24,7 +24,7 @@ IsConfirmed n book = Stands n (last_ticket book) (last_shown book) Newest
 
 -- ---- why it is refused, in words
 
--- the folder comes first, and then for how many seconds that was waited for that could have changed
+-- the folder comes first, then for how many seconds the run waited, if the standing could have changed
 abbrev pub SaysWhy : List ℕ → Option ℕ → List ℕ → Type 0
 SaysWhy folder None text = (rest : List ℕ) × (text ≡ folder ++ (codes ": " ++ rest))
 SaysWhy folder (Some patience) text =

@@ -6,7 +6,7 @@ use Rattle.editor_common.specs.declared.editor_fault.EditorFault.TheVariants.{Ou
 use Rattle.editor_group.specs.declared.address.Address.{Address}
 use Rattle.editor_group.specs.declared.group.Group.{Group}
 
--- for so many seconds no receipt came
+-- for `patience` seconds no receipt came
 abbrev pub gave_up : ℕ → List ℕ
 gave_up patience =
     codes "no progress in "
@@ -17,7 +17,7 @@ gave_up patience =
 abbrev pub NamesNode : Address → List ℕ → Type 0
 NamesNode node text = (rest : List ℕ) × (text ≡ string_bytes node.url ++ (codes ": " ++ rest))
 
--- the words name the node that refuses a command, or that is kept from this client
+-- the words name the node that refuses a command, or that keeps this client out
 abbrev pub IsOfNode : Address → EditorFault → Type 0
 IsOfNode node (Stop words) = NamesNode node (string_bytes words)
 IsOfNode node OutOfMemory = ⊤
@@ -34,7 +34,7 @@ EndsExchange group NoNodes = slice_get group.nodes.items group.at ≡ None
 EndsExchange group OutOfMemory = ⊤
 EndsExchange group _ = ⊥
 
--- or no receipt came for so many seconds; or how far it is could not be written, or the clock not read
+-- or no receipt came for `patience` seconds; or the progress could not be written, or the clock not read
 abbrev pub EndsDelivery : ℕ → Group → EditorFault → Type 0
 EndsDelivery patience group (Stop words) =
     (string_bytes words ≡ gave_up patience) ⊎ NodeSays group.nodes.items (string_bytes words)

@@ -31,7 +31,7 @@ abbrev pub told_truth : Option Bool → Data
 told_truth None = null
 told_truth (Some b) = boolean b
 
--- what is kept of a node has both, beside other members
+-- what is kept of a node has both members, beside others
 abbrev pub IsNode : Row → Data → Type 0
 IsNode row shown = (others : Members)
     × (shown ≡ object (put (codes "same_page") (told_truth row.same)
@@ -43,7 +43,7 @@ AreNodes [] (d ∷ ds) = ⊥
 AreNodes (row ∷ rows) [] = ⊥
 AreNodes (row ∷ rows) (d ∷ ds) = IsNode row d × AreNodes rows ds
 
--- so many nodes are kept, and the newest release of all; by these, all is well with each or not
+-- n nodes are kept, and the newest release of all; `well` says whether all is well with each of them
 pub record TellsNodes (n last : ℕ) (well : Bool) (now : Members) : Type 0 where
   pub rows : List Row
   pub as_many : length rows ≡ n
@@ -54,18 +54,19 @@ pub record TellsNodes (n last : ℕ) (well : Bool) (now : Members) : Type 0 wher
       (put (codes "nodes") (array (items_of nodes)) before)
   pub well_is : well ≡ all_well last rows
 
--- how many commands there are at least, where that is known, and at most
+-- how many commands there are at least, if that is known, and at most
 abbrev pub TellsCommands : Members → Members → Type 0
 TellsCommands old now = (least : Data)
     × (now ≡ put (codes "commands_at_most") (number (unsigned MAX_INSTANCE))
     (put (codes "commands_at_least") least old))
 
--- whether the release that a folder has, if it has one, is shown where that is the newest of all
+-- whether a folder's release is shown, if `last` is the newest release of all; none if the folder has no
+-- release
 abbrev pub shows_folder : ℕ → ℕ → Option Bool
 shows_folder release last = if release == 0 then None else Some (nat_le release last)
 
--- of each of so many nodes it is kept how it is; the status is 0 if all is well with each of them, and the
--- folder's release is shown
+-- how each of the n nodes is, is kept; the status is 0 if all is well with each of them, and the folder's
+-- release is shown
 pub record EndsStatus (n release status : ℕ) (now : Members) : Type 0 where
   pub last : ℕ
   pub well : Bool
@@ -77,8 +78,8 @@ pub record EndsStatus (n release status : ℕ) (now : Members) : Type 0 where
       (put (codes "commands_at_least") least told))
   pub status_is : status ≡ (if well && nat_le release last then 0 else 1)
 
--- why no status is told: one of the URLs names no node; or each names one, and a line could not be written,
--- or the clock not read, or an allocation failed
+-- why no status is printed: one of the URLs names no node; or each names one, and a line could not be
+-- written, the clock could not be read, or an allocation failed
 abbrev pub EndsTelling : {X : Type 0} → (X → List ℕ) → List X → EditorFault → Type 0
 EndsTelling url_of urls why =
     OneIsRefused url_of urls why

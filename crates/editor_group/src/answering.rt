@@ -10,12 +10,12 @@ use editor_http::Question;
 use std::net::{Net, TcpStream};
 use std::rt::Clock;
 
-/// Whether a node told its newest release.
+/// Whether a node said its newest release.
 fn tells_newest(said: &Said<'_>) -> bool {
     said.answers.first().and_then(number_in).is_some()
 }
 
-/// Asks each node for its newest release, which has so many milliseconds to answer.
+/// Asks each node for its newest release, and gives it `within` milliseconds to answer.
 fn ask_newest<'a, R: Net<Stream = TcpStream> + Clock + AllocGlobal>(
     rt: &R,
     group: &'a Group,
@@ -27,7 +27,8 @@ fn ask_newest<'a, R: Net<Stream = TcpStream> + Clock + AllocGlobal>(
     ask_each(rt, &nodes, &[Question::Newest], within)
 }
 
-/// The nodes that do not tell their newest release within so many milliseconds, each after a blank.
+/// The URLs of the nodes that do not say their newest release within `within` milliseconds, each after a
+/// blank.
 pub(crate) fn silent_nodes<R: Net<Stream = TcpStream> + Clock + AllocGlobal>(
     rt: &R,
     group: &Group,

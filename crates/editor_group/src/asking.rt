@@ -11,16 +11,16 @@ use std::io;
 use std::net::{Net, SocketAddr, TcpStream, ToSocketAddrs};
 use std::time::Duration;
 
-/// How many seconds a connection may take to come about.
+/// How many seconds connecting may take.
 const CONNECTING: u64 = 3;
 
-/// How many milliseconds a call of a connection may wait: a node that is busy with others answers late.
+/// How many milliseconds a read or a write may wait: a node that is busy with others answers late.
 const WAITING: u64 = 10_000;
 
-/// The most questions of a connection: a node closes one after a hundred.
+/// The most questions over one connection: a node closes it after a hundred.
 const QUESTIONS: usize = 100;
 
-/// Has what is written sent at once, and calls wait for so many milliseconds.
+/// Lets a connection send at once what is written, and lets reads and writes wait `millis` milliseconds.
 fn set_waiting(stream: &TcpStream, millis: u64) -> io::Result<()> {
     let wait = Some(Duration::from_millis(millis));
     stream.set_nodelay(true)?;
@@ -38,7 +38,7 @@ fn connect_to<N: Net<Stream = TcpStream>>(
     Ok(stream)
 }
 
-/// A connection to the first address of a host that takes one within so long.
+/// A connection to the first address of a host that takes one within `within`.
 pub(crate) fn connect_within<N: Net<Stream = TcpStream>>(
     net: &N,
     host: &str,
@@ -54,7 +54,7 @@ pub(crate) fn connect_within<N: Net<Stream = TcpStream>>(
     tried
 }
 
-/// A connection whose calls wait for so many milliseconds.
+/// A connection whose reads and writes wait `millis` milliseconds.
 fn connect_waiting<N: Net<Stream = TcpStream>>(
     net: &N,
     host: &str,
@@ -65,7 +65,7 @@ fn connect_waiting<N: Net<Stream = TcpStream>>(
     Ok(stream)
 }
 
-/// Writes a question: whether it was written.
+/// Writes a question. The result says whether it was written.
 fn write_question(
     alloc: Global,
     stream: &TcpStream,
@@ -77,7 +77,7 @@ fn write_question(
     Ok(write_all(&mut Counted::new(stream), request.as_bytes()).is_ok())
 }
 
-/// Writes questions, the last of which ends the connection, as far as they can be written.
+/// Writes questions until one cannot be written. The last question ends the connection.
 pub(crate) fn write_questions(
     alloc: Global,
     stream: &TcpStream,
@@ -93,7 +93,7 @@ pub(crate) fn write_questions(
     Ok(())
 }
 
-/// The next answer of a connection; nothing where none comes.
+/// The next answer over a connection; `None` if none comes.
 fn next_answer(
     alloc: Global,
     reader: &mut Counted<&TcpStream>,
@@ -106,7 +106,7 @@ fn next_answer(
     }
 }
 
-/// Reads answers until there are so many, or no more come.
+/// Reads answers until there are `most`, or no more come.
 pub(crate) fn read_answers(
     alloc: Global,
     stream: &TcpStream,
@@ -129,8 +129,8 @@ pub(crate) fn read_answers(
     Ok(())
 }
 
-/// Asks over a connection, until there are so many answers in all. What was written is answered also if the
-/// rest could not be written.
+/// Asks over a connection, until there are `most` answers in all. If a question cannot be written, the
+/// answers to those before it are read all the same.
 fn converse(
     alloc: Global,
     stream: &TcpStream,
@@ -145,9 +145,9 @@ fn converse(
     read_answers(alloc, stream, most, answers)
 }
 
-/// Asks a node all at once over a connection, and reads its answers, which come in the same order: until
-/// there are so many in all, the connection fails or ends, or one is waited for longer than so many
-/// milliseconds. Then the connection is closed, since it holds one of the node's 64 seats.
+/// Sends a node all questions at once over a connection, and reads its answers, which come in the same order.
+/// It ends if there are `most` answers in all, if the connection fails or ends, or if an answer takes longer
+/// than `millis` milliseconds. Then it closes the connection, since that holds one of the node's 64 seats.
 fn ask_once<N: Net<Stream = TcpStream>>(
     net: &N,
     alloc: Global,
@@ -166,7 +166,7 @@ fn ask_once<N: Net<Stream = TcpStream>>(
     }
 }
 
-/// Asks a node, and adds its answers: until there are as many as questions, or it falls silent.
+/// Asks a node and adds its answers, until there is one for each question or the node falls silent.
 fn ask_all<N: Net<Stream = TcpStream>>(
     net: &N,
     alloc: Global,
@@ -188,8 +188,8 @@ fn ask_all<N: Net<Stream = TcpStream>>(
     Ok(())
 }
 
-/// The answers of a node to questions, in their order: fewer than these if it is silent for so many
-/// milliseconds. If nothing is asked nothing fails.
+/// A node's answers to questions, in their order: fewer than the questions if it is silent for `millis`
+/// milliseconds. Without questions nothing fails.
 pub(crate) fn ask_within<N: Net<Stream = TcpStream>>(
     net: &N,
     alloc: Global,
@@ -207,8 +207,8 @@ pub(crate) fn ask_within<N: Net<Stream = TcpStream>>(
     Ok(answers)
 }
 
-/// The answers of a node to questions, in their order: fewer than these if it falls silent. No clause can say
-/// what a node answers. If nothing is asked nothing fails.
+/// A node's answers to questions, in their order: fewer than the questions if it falls silent. No clause can
+/// say what a node answers. Without questions nothing fails.
 pub fn ask<N: Net<Stream = TcpStream>>(
     net: &N,
     alloc: Global,
@@ -221,7 +221,7 @@ pub fn ask<N: Net<Stream = TcpStream>>(
     ask_within(net, alloc, node, questions, WAITING)
 }
 
-/// The number of a text, with blanks after it at most.
+/// The number that a text spells, which only blanks may follow.
 fn number_of(text: &str) -> Option<u64>
     ensures { MatchOption result ((n : ℕ) → ¬ (Spells text.now n)) (Spells text.now) }
 {
@@ -239,8 +239,8 @@ pub(crate) fn number_in(answer: &NodeAnswer) -> Option<u64>
     number_of(text)
 }
 
-/// The number of a node's newest release; nothing if the node does not say. A node may say any number, so no
-/// clause can tell a right one from a wrong one.
+/// The number of a node's newest release; `None` if the node does not say it. A node may say any number: no
+/// clause can distinguish a right one from a wrong one.
 pub fn newest<N: Net<Stream = TcpStream>>(
     net: &N,
     alloc: Global,

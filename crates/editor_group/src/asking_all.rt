@@ -1,4 +1,4 @@
-//! The same questions to several nodes at once, so that silent ones cost no more time than one of them.
+//! The same questions to several nodes at once: several silent nodes take no more time than one.
 ghost use Rattle.std.specs.Prelude.{◌≡◌, length, vec_len, IfErr, IfOk};
 
 use crate::address::Address;
@@ -14,7 +14,7 @@ use std::time::{Duration, Instant};
 /// How many milliseconds the nodes have in all to take their connections.
 const CONNECTING: u64 = 3_000;
 
-/// How many milliseconds lie between two looks whether answers have come.
+/// How many milliseconds pass between two checks for answers.
 const LOOKING: u64 = 1;
 
 /// A node that was asked.
@@ -25,8 +25,8 @@ struct Talk<'a> {
     since: Instant,
 }
 
-/// What a node said: how many milliseconds passed until then, and its answers, in the order of the
-/// questions, fewer than these if it fell silent; or why there is no connection to it.
+/// What a node said: after how many milliseconds, and its answers in the order of the questions, fewer than
+/// these if it fell silent. `fault` says why there is no connection to it.
 #[derive(Drop)]
 pub(crate) struct Said<'a> {
     pub node: &'a Address,
@@ -35,7 +35,7 @@ pub(crate) struct Said<'a> {
     pub fault: Option<io::Error>,
 }
 
-/// The first status by which what stands before a node says that the node gave no answer.
+/// The first status by which a proxy before a node says that the node gave no answer.
 const BAD_GATEWAY: u16 = 502;
 
 impl Said<'_> {
@@ -58,14 +58,14 @@ impl Said<'_> {
     }
 }
 
-/// How far it is with a node.
+/// How far the talk with a node is.
 #[derive(Drop)]
 enum Call<'a> {
     Waits(Talk<'a>),
     Over(Said<'a>),
 }
 
-/// What a node said that is silent, or that there is no connection to.
+/// What is noted of a node that is silent, or to which there is no connection.
 fn silence(alloc: Global, node: &Address, fault: Option<io::Error>) -> Said<'_> {
     Said {
         node,
@@ -75,7 +75,7 @@ fn silence(alloc: Global, node: &Address, fault: Option<io::Error>) -> Said<'_> 
     }
 }
 
-/// Writes the questions over a connection, whose answers are waited for.
+/// Writes the questions over a connection, and leaves their answers for later.
 fn begin_talk<'a, R: Clock + AllocGlobal>(
     rt: &R,
     stream: TcpStream,
@@ -94,7 +94,7 @@ fn begin_talk<'a, R: Clock + AllocGlobal>(
     }))
 }
 
-/// Asks a node, which may take so long for a connection.
+/// Asks a node, which has `within` to take the connection.
 fn begin<'a, R: Net<Stream = TcpStream> + Clock + AllocGlobal>(
     rt: &R,
     node: &'a Address,
@@ -108,7 +108,7 @@ fn begin<'a, R: Net<Stream = TcpStream> + Clock + AllocGlobal>(
     }
 }
 
-/// Asks each node, one after the other. None is waited for but for its connection.
+/// Asks each node, one after the other. It waits for a node's connection, but not for its answers.
 fn begin_all<'a, R: Net<Stream = TcpStream> + Clock + AllocGlobal>(
     rt: &R,
     nodes: &[&'a Address],
@@ -124,7 +124,7 @@ fn begin_all<'a, R: Net<Stream = TcpStream> + Clock + AllocGlobal>(
     Ok(calls)
 }
 
-/// Whether something has come over a connection, be it its end.
+/// Whether bytes or the end have come over a connection.
 fn has_come(stream: &TcpStream) -> bool {
     let mut byte = [0; 1];
     match stream.peek(&mut byte) {
@@ -133,13 +133,13 @@ fn has_come(stream: &TcpStream) -> bool {
     }
 }
 
-/// Has calls of a connection wait so many milliseconds.
+/// Lets reads of a connection wait `millis` milliseconds.
 fn set_waiting(stream: &TcpStream, millis: u64) -> io::Result<()> {
     stream.set_nonblocking(false)?;
     stream.set_read_timeout(Some(Duration::from_millis(millis.max(1))))
 }
 
-/// Reads what has come of a node; its other answers have so many milliseconds.
+/// Reads what has come from a node. Its other answers have `left` milliseconds.
 fn read_talk<'a, R: Clock + AllocGlobal>(
     rt: &R,
     talk: &Talk<'a>,
@@ -154,7 +154,7 @@ fn read_talk<'a, R: Clock + AllocGlobal>(
     Ok(said)
 }
 
-/// What a node has said since it was looked at, if it has.
+/// What a node has said since the last check, if it said something.
 fn news_of<'a, R: Clock + AllocGlobal>(
     rt: &R,
     call: &Call<'a>,
@@ -171,7 +171,7 @@ fn waits(call: &Call<'_>) -> bool {
     matches!(call, Call::Waits(_))
 }
 
-/// Looks at each node that is waited for. Whether some still are is the answer.
+/// Checks each node that is waited for. The result says whether some still are.
 fn look<R: Clock + AllocGlobal>(
     rt: &R,
     calls: &mut [Call<'_>],
@@ -188,7 +188,7 @@ fn look<R: Clock + AllocGlobal>(
     Ok(calls.iter().any(waits))
 }
 
-/// Looks at the nodes until each has answered, or so many milliseconds have passed.
+/// Checks the nodes until each has answered, or `within` milliseconds have passed.
 fn wait_for_all<R: Clock + AllocGlobal>(
     rt: &R,
     calls: &mut [Call<'_>],
@@ -208,7 +208,7 @@ fn wait_for_all<R: Clock + AllocGlobal>(
     Ok(())
 }
 
-/// What each node has said; one that is still waited for is silent.
+/// What each node has said. A node that is still waited for counts as silent.
 fn said_in(alloc: Global, calls: Vec<Call<'_>>) -> Result<Vec<Said<'_>>, AllocError>
     ensures { IfOk result (λ all. vec_len all ≡ vec_len calls.entry) }
 {
@@ -222,7 +222,8 @@ fn said_in(alloc: Global, calls: Vec<Call<'_>>) -> Result<Vec<Said<'_>>, AllocEr
     Ok(all)
 }
 
-/// Asks several nodes at once, and reads what each says within so many milliseconds, in their order.
+/// Asks several nodes at once. The result is what each said within `within` milliseconds, in the order of the
+/// nodes.
 pub(crate) fn ask_each<'a, R: Net<Stream = TcpStream> + Clock + AllocGlobal>(
     rt: &R,
     nodes: &[&'a Address],

@@ -1,4 +1,4 @@
-//! What is on its way is sent until each has its receipt.
+//! Sends the commands that are on their way until each has its receipt.
 ghost use Rattle.std.specs.Prelude.{◌≡◌, true, string_bytes, IfErr, IfOk, IsOk, OnOk};
 ghost use Rattle.editor_ledger.specs.Steps.{is_idle};
 ghost use Rattle.editor_plan.specs.Moves.{HearsAnswers};
@@ -20,7 +20,7 @@ use std::net::{Net, TcpStream};
 use std::rt::{Clock, Files};
 use std::time::Instant;
 
-/// The text that is on its way under a number.
+/// The text of the command that is on its way with this number; empty if none is.
 fn text_under(ledger: &Ledger, number: u64) -> &str {
     match ledger.sent().iter().find(|sent| sent.number == number) {
         Some(sent) => sent.text.as_str(),
@@ -141,7 +141,8 @@ fn hear_all(
     Ok(())
 }
 
-/// One connection to a node, whose answers are waited for so many milliseconds: whether it answered.
+/// Asks a node over one connection, and waits `within` milliseconds for an answer. The result says whether it
+/// answered.
 fn exchange<N: Net<Stream = TcpStream>>(
     net: &N,
     alloc: Global,
@@ -159,7 +160,7 @@ fn exchange<N: Net<Stream = TcpStream>>(
     Ok(!answers.is_empty())
 }
 
-/// One connection to the node that is spoken to, and what came of it.
+/// Asks the node that is spoken to over one connection. The result says what came of it.
 #[tactic(auto, using(crate::proofs::Faults::node_ends_exchange))]
 fn bring<N: Net<Stream = TcpStream>>(
     net: &N,
@@ -182,7 +183,7 @@ fn bring<N: Net<Stream = TcpStream>>(
     })
 }
 
-/// Speaks to the next node, which has taken nothing. Once each was spoken to it rests.
+/// Speaks to the next node, which has taken no command yet. It rests if each node was spoken to.
 fn turn<C: Clock>(clock: &C, alloc: Global, flight: &mut Flight, group: &mut Group)
     ensures { group.new.nodes ≡ group.old.nodes }
 {
@@ -192,7 +193,7 @@ fn turn<C: Clock>(clock: &C, alloc: Global, flight: &mut Flight, group: &mut Gro
     }
 }
 
-/// Why nothing is sent any longer.
+/// The fault of a delivery that gives up.
 fn too_slow(alloc: Global, group: &Group, patience: u64) -> EditorFault
     ensures { EndsDelivery patience group.now result }
 {
@@ -240,9 +241,9 @@ fn deliver_at<R: Net<Stream = TcpStream> + Files + Clock + AllocGlobal, E: Write
     Err(EditorFault::Clock)
 }
 
-/// Sends what is on its way in a ledger that was saved, until each has its receipt. It stays with a node
-/// while receipts come there, and gives up where none came for so many seconds. The ledger is saved meanwhile
-/// too, as it tells how far it is.
+/// Sends the commands that are on their way in a saved ledger, until each has its receipt. It stays with a
+/// node while receipts come from there, and gives up if none came for `patience` seconds. Meanwhile it prints
+/// how far it is, and saves the ledger too.
 pub fn deliver<R: Net<Stream = TcpStream> + Files + Clock + AllocGlobal, E: Write>(
     rt: &R,
     err: &mut E,

@@ -60,15 +60,15 @@ impl Group {
         }
     }
 
-    /// Speaks to the node of that place from now on, counted from 0; to the one as before where none is
-    /// named.
+    /// Speaks to the node at this place, counted from 0, from now on; without a place, to the same node as
+    /// before.
     pub(crate) fn speak_to(&mut self, place: Option<usize>)
         ensures { self.new ≡ record self.old { at = unwrap_or place self.old.at } }
     {
         self.at = place.unwrap_or(self.at);
     }
 
-    /// Speaks to the next node: whether each was spoken to since the first.
+    /// Speaks to the next node. The result says whether each was spoken to since the first.
     pub(crate) fn next(&mut self) -> bool
         ensures turns { self.new ≡ record self.old {
           at = (if nat_lt (self.old.at + 1) (length self.old.nodes.items) then self.old.at + 1 else 0);

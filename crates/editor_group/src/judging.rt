@@ -23,11 +23,11 @@ use std::net::{Net, TcpStream};
 use std::rt::Clock;
 use std::time::Instant;
 
-/// How many milliseconds lie between two times that all nodes are asked.
+/// How many milliseconds pass before all nodes are asked again.
 const AGAIN: u64 = 500;
 
-/// An editor, the last ticket that has its receipt by a ledger, and the next one; and the newest release that
-/// the group has shown of the folder.
+/// What a ledger says: its editor, the last ticket that has its receipt, the next one, and the newest release
+/// of the folder that the group has shown.
 #[derive(Clone, Copy)]
 struct Claim {
     editor: u32,
@@ -52,7 +52,7 @@ fn claim_of(ledger: &Ledger) -> Claim
     }
 }
 
-/// Who does not tell its newest release is no node, or says nothing that can be used.
+/// One that does not say its newest release is no node, or says nothing that can be used.
 const SILENT: Witness = Witness {
     last: Told::Nothing,
     next: Told::Nothing,
@@ -108,13 +108,13 @@ fn witnesses_in(alloc: Global, all: &[Said<'_>]) -> Result<Vec<Witness>, AllocEr
     Ok(witnesses)
 }
 
-/// Which node is the first that confirms a ledger.
+/// The place of the first node that confirms a ledger.
 fn confirming(claim: Claim, witnesses: &[Witness]) -> Option<usize> {
     witnesses.iter().position(|witness| standing_of(claim.last, claim.shown, &[*witness])
         == Standing::Newest)
 }
 
-/// Why a ledger is refused that is none of the newest.
+/// Why a ledger is refused that is not the newest.
 fn reason(
     alloc: Global,
     folder: &str,
@@ -161,7 +161,8 @@ fn reason(
     }
 }
 
-/// The same, with the folder before it, and for how many seconds something else was waited for, if it was.
+/// The same, with the folder first; then the number of seconds that the run waited for another standing, if
+/// it did.
 fn refusal(
     alloc: Global,
     folder: &str,
@@ -178,7 +179,7 @@ fn refusal(
     }
 }
 
-/// The fault of a ledger that is refused so.
+/// The fault of a ledger that is refused for this.
 fn refused(
     alloc: Global,
     folder: &str,
@@ -194,7 +195,8 @@ fn refused(
     }
 }
 
-/// For how many seconds another standing was waited for, before a publication is refused for this one.
+/// How many seconds a publication waits for another standing before it is refused for this one; `None` if it
+/// does not wait.
 fn waited_for(found: Standing, patience: u64) -> Option<u64>
     ensures { result ≡ waited_for patience found }
 {
@@ -204,7 +206,7 @@ fn waited_for(found: Standing, patience: u64) -> Option<u64>
     }
 }
 
-/// Why a node tells nothing that can be used.
+/// Why a node says nothing that can be used.
 fn why_silent(alloc: Global, said: &Said<'_>) -> Result<String, AllocError> {
     let url = said.node.url.as_str();
     match (&said.fault, said.barred()) {
@@ -217,7 +219,7 @@ fn why_silent(alloc: Global, said: &Said<'_>) -> Result<String, AllocError> {
     }
 }
 
-/// Why nothing is waited for.
+/// The fault of a group that is not waited for.
 fn nothing_sent(alloc: Global) -> EditorFault
     ensures { EndsAsking result }
 {
@@ -227,7 +229,7 @@ fn nothing_sent(alloc: Global) -> EditorFault
     }
 }
 
-/// Tells why no node answers. If one keeps this client out nothing is waited for.
+/// Prints why no node answers. If one keeps this client out, it fails and nothing is waited for.
 #[tactic(auto, using(crate::proofs::Faults::talk_ends_asking))]
 fn tell_unanswered<E: Write>(
     alloc: Global,
@@ -247,7 +249,7 @@ fn tell_unanswered<E: Write>(
     Ok(())
 }
 
-/// Tells which nodes were waited for in vain, if some were.
+/// Prints which nodes were waited for in vain, if some were.
 fn tell_waited<E: Write>(alloc: Global, err: &mut E, all: &[Said<'_>]) -> Result<(), TalkFault> {
     let silent = silent_urls(alloc, all)?;
     if silent.is_empty() {
@@ -256,7 +258,7 @@ fn tell_waited<E: Write>(alloc: Global, err: &mut E, all: &[Said<'_>]) -> Result
     say_made(err, format!(in alloc; "no answer from{silent}"))
 }
 
-/// Tells what kept questions from being answered, the first time that nodes were asked.
+/// Prints why questions were not answered, the first time that nodes were asked.
 #[tactic(auto, using(crate::proofs::Faults::talk_ends_asking))]
 fn tell_first<E: Write>(
     alloc: Global,
@@ -284,8 +286,8 @@ struct Found {
     first: Option<usize>,
 }
 
-/// Asks all nodes at once, which were asked so many times before and have so many milliseconds to answer, and
-/// tells the first time what keeps some from answering.
+/// Asks all nodes at once, which were asked `times` times before and have `within` milliseconds to answer.
+/// The first time it prints why some do not answer.
 #[tactic(auto, using(crate::proofs::Faults::talk_ends_asking))]
 fn ask_group<R: Net<Stream = TcpStream> + Clock + AllocGlobal, E: Write>(
     rt: &R,
@@ -311,7 +313,7 @@ fn ask_group<R: Net<Stream = TcpStream> + Clock + AllocGlobal, E: Write>(
     })
 }
 
-/// Tells what is waited for, once a standing was found that may change, and for how many seconds.
+/// Prints what the run waits for and for how many seconds, after it found a standing that may change.
 fn tell_waiting<E: Write>(
     alloc: Global,
     err: &mut E,
@@ -342,14 +344,14 @@ fn tell_waiting<E: Write>(
     say_made(err, line)
 }
 
-/// Whether a standing is one that is not waited for any longer, after so many milliseconds.
+/// Whether the run stops waiting at this standing, after `passed` milliseconds.
 fn is_final(passed: u64, patience: u64, found: Standing) -> bool
     ensures { result ≡ false → 0 < patience }
 {
     found == Standing::Newest || found == Standing::Older || passed / 1000 >= patience
 }
 
-/// How a ledger stands to a group once it is confirmed or refused, or so many seconds have passed.
+/// How a ledger stands to a group, after it is confirmed or refused, or after `patience` seconds.
 #[tactic(auto, using(crate::proofs::Faults::talk_ends_asking))]
 fn settled<R: Net<Stream = TcpStream> + Clock + AllocGlobal, E: Write>(
     rt: &R,
@@ -388,8 +390,8 @@ pub enum Look {
     Refused(EditorFault),
 }
 
-/// Asks all nodes once whether a folder's ledger is the newest of its editor. The first that confirms it is
-/// spoken to from then on. Which nodes do not answer is told.
+/// Asks all nodes once whether a folder's ledger is the newest of its editor. The first node that confirms it
+/// is spoken to from then on. It prints which nodes do not answer.
 pub fn look_at<R: Net<Stream = TcpStream> + Clock + AllocGlobal, E: Write>(
     rt: &R,
     err: &mut E,
@@ -410,8 +412,8 @@ pub fn look_at<R: Net<Stream = TcpStream> + Clock + AllocGlobal, E: Write>(
     })
 }
 
-/// Asks until a node confirms that a folder's ledger is the newest of its editor, which is spoken to from
-/// then on; or one says that there is a newer one, or so many seconds have passed: then it is refused.
+/// Asks until a node confirms that a folder's ledger is the newest of its editor. That node is spoken to from
+/// then on. The ledger is refused if a node says that there is a newer one, or after `patience` seconds.
 #[tactic(auto, using(crate::proofs::Faults::asking_ends_confirming, crate::proofs::Faults::refusal_ends_confirming,))]
 pub fn confirm<R: Net<Stream = TcpStream> + Clock + AllocGlobal, E: Write>(
     rt: &R,

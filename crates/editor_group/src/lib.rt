@@ -1,12 +1,12 @@
-//! A group of nodes, spoken to over sockets: what a publication asks of it and sends.
+//! What a publication asks of a group of nodes, and sends to it, over sockets.
 //!
-//! `address.rt` reads addresses, `logins.rt` the file of their logins, `group.rt` says which node is spoken
-//! to, `asking.rt` asks one over a connection, with the bytes of `editor_http`, `asking_all.rt` several at
-//! once, `answering.rt` which of them answer. `judging.rt` asks the group whether a ledger is the newest, and
-//! `delivering.rt` sends what is on its way in a ledger that was saved, until each command has its receipt;
-//! what is asked next and what answers mean, `editor_plan` says. `progress.rt` tells meanwhile how far that
-//! is. `status.rt` writes what each node says of itself, which `reports.rt` asks. What real sockets give and
-//! take is tested, not proved.
+//! `address.rt` reads addresses, and `logins.rt` the file of their logins. `group.rt` says which node is
+//! spoken to. `asking.rt` asks one node over a connection, with the bytes of `editor_http`. `asking_all.rt`
+//! asks several at once, and `answering.rt` says which of them answer. `judging.rt` asks the group whether a
+//! ledger is the newest. `delivering.rt` sends what is on its way in a saved ledger, until each command has
+//! its receipt; `editor_plan` says what is asked next and what answers mean. `progress.rt` prints meanwhile
+//! how far that is. `status.rt` prints what each node says of itself, which `reports.rt` asks. What real
+//! sockets do is tested, not proved.
 #![tactic(auto)]
 
 mod address;

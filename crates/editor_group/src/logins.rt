@@ -1,8 +1,7 @@
-//! A file of logins, so that no password stands on a command line.
+//! A file of logins, which keeps passwords off the command line.
 //!
-//! A line is the address of a node with its login, as a command line has it too, and as `git
-//! credential-store` keeps them. Empty lines and those that begin with `#` are passed over. No message has a
-//! line's text.
+//! A line is the address of a node with its login, spelled as on a command line and as `git credential-store`
+//! keeps them. Empty lines and lines that begin with `#` are ignored. No message has a line's text.
 ghost use Rattle.std.specs.Prelude.{◌≡◌, ◌++◌, ℕ, List, map, length, vec_len, codes, IfErr, IfOk, None};
 ghost use Rattle.std.specs.Prelude.{string_bytes};
 ghost use Rattle.editor_common.specs.Faults.{IsInFile};
@@ -43,7 +42,7 @@ fn no_login(alloc: Global, file: &str, line: usize) -> EditorFault
     }
 }
 
-/// What a line has, counted from 1.
+/// The login of a line. `number` counts lines from 1.
 fn login_line<'a>(
     alloc: Global,
     file: &str,
@@ -62,7 +61,7 @@ fn login_line<'a>(
     }
 }
 
-/// What the lines of a file have.
+/// The logins of a file's lines.
 fn login_lines<'a>(
     alloc: Global,
     file: &str,
@@ -80,7 +79,7 @@ fn login_lines<'a>(
     Ok(lines)
 }
 
-/// The URL by which a node is asked: the first line for its host and port, where it names no login itself.
+/// The URL by which a node is asked. If it has no login, the first line for its host and port replaces it.
 fn url_by(alloc: Global, url: &str, lines: &[LoginLine<'_>]) -> Result<String, AllocError> {
     let Some(Address { authority, .. }) = address_in(alloc, url)? else {
         return String::from_str(alloc, url);

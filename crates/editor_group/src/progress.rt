@@ -1,4 +1,4 @@
-//! What is told while commands are on their way; when it is told, `editor_plan` says.
+//! What is printed while commands are on their way. `editor_plan` says when.
 ghost use Rattle.std.specs.Prelude.{IfErr};
 
 use crate::answering::silent_nodes;
@@ -10,10 +10,10 @@ use std::io::Write;
 use std::net::{Net, TcpStream};
 use std::rt::{Clock, Files};
 
-/// How many milliseconds nodes have to answer, so that those are named which do not.
+/// How many milliseconds nodes have to answer before they are named as silent.
 const NAMING: u64 = 1_000;
 
-/// Tells that no command comes into the log, and which nodes do not answer.
+/// Prints that no command comes into the log, and which nodes do not answer.
 fn tell_silence<R: Net<Stream = TcpStream> + Clock + AllocGlobal, E: Write>(
     rt: &R,
     err: &mut E,
@@ -34,8 +34,7 @@ fn tell_silence<R: Net<Stream = TcpStream> + Clock + AllocGlobal, E: Write>(
     say_made(err, line)
 }
 
-/// Tells how many commands have their receipts, and saves the ledger if enough of them came since it was
-/// saved.
+/// Prints how many commands have their receipts, and saves the ledger if enough came since it was last saved.
 fn tell_count<R: Files + AllocGlobal, E: Write>(
     rt: &R,
     err: &mut E,
@@ -46,13 +45,14 @@ fn tell_count<R: Files + AllocGlobal, E: Write>(
     let all = progress.all();
     say_made(err, format!(in rt.alloc(); "{has} of {all} commands"))?;
     if progress.keeps(has) {
-        // The delivery goes on without: the ledger is saved at its end too, and a fault is told there.
+        // If this fails the delivery goes on: the ledger is saved at its end too, and a fault is reported
+        // there.
         drop(saved.keep(rt));
     }
     Ok(())
 }
 
-/// Tells how far a delivery is, if that is to be told now, which ended an exchange that came to that.
+/// Prints how far a delivery is, if it is time to. `came` is what came of the last exchange.
 pub(crate) fn tell_progress<R: Net<Stream = TcpStream> + Files + Clock + AllocGlobal, E: Write>(
     rt: &R,
     err: &mut E,

@@ -53,9 +53,9 @@ impl Published {
     }
 }
 
-/// A node: how many milliseconds it took to answer, whether it did, why it keeps this client out if it does,
-/// its newest release, if it told one, the instance of a folder's last ticket, if it told that; and its start
-/// page in the newest release that all have.
+/// A node: how many milliseconds it took to answer, whether it did, and why it keeps this client out, if it
+/// does. `newest` is its newest release and `instance` that of a folder's last ticket, if it said them.
+/// `page` is its start page in the newest release that all have.
 #[derive(Drop)]
 pub(crate) struct Report<'a> {
     pub node: &'a Address,
@@ -67,7 +67,7 @@ pub(crate) struct Report<'a> {
     pub page: Option<NodeAnswer>,
 }
 
-/// The newest release that all nodes have which answer, and the newest of all; 0 where there is none.
+/// The newest release that all nodes that answer have, and the newest of all; 0 if there is none.
 #[derive(Clone, Copy)]
 pub(crate) struct Range {
     pub common: u64,
@@ -109,7 +109,7 @@ fn those_silent<'a>(alloc: Global, all: &[Said<'a>]) -> Result<Vec<&'a Address>,
     Ok(nodes)
 }
 
-/// Asks nodes that were silent once more. Which they are is told.
+/// Asks the nodes that were silent once more, and prints which they are.
 fn ask_again<'a, R: Net<Stream = TcpStream> + Clock + AllocGlobal, E: Write>(
     rt: &R,
     err: &mut E,
@@ -170,7 +170,7 @@ pub(crate) fn range_of(reports: &[Report<'_>]) -> Range {
     }
 }
 
-/// The nodes that told their newest release.
+/// The nodes that said their newest release.
 fn those_that_answer<'a>(
     alloc: Global,
     reports: &[Report<'a>],
@@ -203,7 +203,7 @@ fn ask_pages<R: Net<Stream = TcpStream> + Clock + AllocGlobal>(
     Ok(())
 }
 
-/// What each node says of itself and of a folder. Which are silent at first is told.
+/// What each node says of itself and of a folder. It prints which nodes are silent at first.
 pub(crate) fn reports_of<'a, R: Net<Stream = TcpStream> + Clock + AllocGlobal, E: Write>(
     rt: &R,
     err: &mut E,

@@ -1,4 +1,4 @@
-//! What each node of a group says of itself, told.
+//! Prints what each node of a group says of itself.
 ghost use Rattle.std.specs.Prelude.{◌≡◌, ◌==◌, ◌&&◌, nat_le, if◌then◌else◌, length, IfErr, IfOk, OnOk, Some};
 ghost use Rattle.std.specs.Prelude.{None};
 ghost use Rattle.serde_json.specs.View.{view};
@@ -24,8 +24,8 @@ fn are_same(page: Option<&NodeAnswer>, other: Option<&NodeAnswer>) -> bool {
     }
 }
 
-/// Whether a node's start page is that of the others; nothing where none of them has a release, or it tells
-/// none.
+/// Whether a node's start page is that of the others; `None` if they have no release in common, or the node
+/// says none.
 fn same_page(report: &Report<'_>, first: Option<&NodeAnswer>, range: Range) -> Option<bool> {
     if range.common == 0 || report.newest.is_none() {
         return None;
@@ -33,7 +33,7 @@ fn same_page(report: &Report<'_>, first: Option<&NodeAnswer>, range: Range) -> O
     Some(are_same(report.page.as_ref(), first))
 }
 
-/// What of a node says whether all is well with it: its newest release, and whether its start page is that of
+/// What decides whether all is well with a node: its newest release, and whether its start page is that of
 /// the others.
 #[derive(Clone, Copy)]
 struct Row {
@@ -48,7 +48,7 @@ fn row_of(report: &Report<'_>, first: Option<&NodeAnswer>, range: Range) -> Row 
     }
 }
 
-/// How one is called that does not tell its newest release: what keeps this client out, another server, or
+/// The word for one that does not say its newest release: it keeps this client out, is another server, or is
 /// a node that is silent.
 fn silence_of(report: &Report<'_>) -> &'static str {
     match (report.barred, report.answered) {
@@ -137,7 +137,7 @@ fn tell_head<W: Write>(alloc: Global, out: &mut W, common: u64) -> Result<(), Ta
     )
 }
 
-/// Writes a line for each node, and keeps them all. Whether all is well is the answer.
+/// Writes a line for each node, and keeps them all in the outcome. The result says whether all is well.
 fn tell_all<W: Write>(
     alloc: Global,
     out: &mut W,
@@ -162,7 +162,7 @@ fn tell_all<W: Write>(
     Ok(well)
 }
 
-/// Writes why nodes keep this client out, which do.
+/// Writes why nodes keep this client out, for each that does.
 fn tell_barred<W: Write>(
     alloc: Global,
     out: &mut W,
@@ -177,7 +177,7 @@ fn tell_barred<W: Write>(
     Ok(())
 }
 
-/// Writes how many commands the group has at least, where a node told the instance of a folder's last ticket.
+/// Writes how many commands the group has at least, if a node said the instance of a folder's last ticket.
 fn tell_commands<W: Write>(
     alloc: Global,
     out: &mut W,
@@ -198,8 +198,8 @@ fn tell_commands<W: Write>(
     Ok(())
 }
 
-/// Writes that no node shows a folder's last release, where that is so of those that answer. Whether all is
-/// well is the answer.
+/// Writes that no node shows a folder's last release, if none of those that answer does. The result says
+/// whether all is well.
 fn tell_returning<W: Write>(
     alloc: Global,
     out: &mut W,
@@ -221,7 +221,7 @@ fn tell_returning<W: Write>(
     Ok(false)
 }
 
-/// Whether a release of a folder is shown, where it has one.
+/// Whether a folder's release is shown; `None` if it has none.
 fn shows_of(release: u64, shown: bool) -> Option<bool>
     ensures { result ≡ (if release == 0 then None else Some shown) }
 {
@@ -238,10 +238,10 @@ fn status_of(well: bool, shown: bool) -> u8
 }
 
 /// Writes a table of nodes: URL, milliseconds to an answer, newest release, how many releases it is behind,
-/// and whether its start page in the newest release that all have is that of the others; and how many
-/// commands the group has at least, by the last ticket of a folder. Status 1 where a node is silent, behind
-/// or differs, or where no node shows a release that the folder made. All of it is kept in the outcome. Which
-/// nodes are silent at first is told to `err`.
+/// and whether its start page in the newest release that all have is that of the others. Then it writes how
+/// many commands the group has at least, by the last ticket of a folder. The status is 1 if a node is silent,
+/// behind or differs, or if no node shows a release that the folder made. The outcome keeps all of it. `err`
+/// gets the nodes that are silent at first.
 pub fn tell_status<R: Net<Stream = TcpStream> + Clock + AllocGlobal, W: Write, E: Write>(
     rt: &R,
     out: &mut W,

@@ -18,7 +18,7 @@ pub record Book : Type 0 where
   -- what is on its way
   pub sent : List Given
   pub log : List Released
-  -- of each plan the number of its first ticket, with what stood before each of its texts
+  -- of each plan the number of its first ticket, with what the group had before each of its texts
   pub past : List Given
   -- what was said of releases, by their numbers
   pub messages : List Given

@@ -1,4 +1,4 @@
--- Texts, found by themselves, and by what they are about.
+-- Sets of texts, and maps of texts by what they are about.
 use Rattle.std.specs.Prelude.{◌≡◌, ℕ, List, Option, option_map, find}
 use Rattle.std.specs.List.{list_any}
 use Rattle.std.specs.Str.{bytes_eq}
@@ -12,19 +12,19 @@ use Rattle.editor_ledger.specs.Heads.{head_of, is_about}
 use Rattle.editor_ledger.specs.View.{head_view}
 use Rattle.editor_ledger.specs.declared.head.Head.{Head}
 
--- a text, lent
+-- a borrowed text
 abbrev pub Lent : Type 0
 Lent = Bor (List ℕ)
 
--- texts by their bytes
+-- the order of texts: by their bytes
 abbrev pub text_cmp : Lent → Lent → Ordering
 text_cmp t u = slice_cmp nat_cmp t.now u.now
 
--- a set has just these texts
+-- a set has exactly these texts
 abbrev pub HasTexts : BTreeSet Lent → List (List ℕ) → Type 0
 HasTexts set texts = (text : Lent) → contains text_cmp set text ≡ list_any (bytes_eq text.now) texts
 
--- a kind and a name: by the kinds, then by the names
+-- the order of kinds and names: by the kinds, then by the names
 abbrev pub subject_cmp : Lent × Lent → Lent × Lent → Ordering
 subject_cmp s t = ordering_then (text_cmp s.0 t.0) (text_cmp s.1 t.1)
 

@@ -15,7 +15,7 @@ pub record Head : Type 0 where
 abbrev pub head_with : List ℕ → List ℕ × List ℕ → Head
 head_with verb p = record { verb = verb; kind = p.0; name = before_first (λ b. b == 32) p.1 }
 
--- the words of the first line, parted by a space each; a release has none
+-- the words of the first line, with a space between each; a release has no head
 abbrev pub head_of : List ℕ → Option Head
 head_of text =
     option_and_then (λ p. option_map (head_with p.0) (cut_at 32 p.1))

@@ -9,13 +9,13 @@ use Rattle.editor_ledger.specs.declared.released.Released.{Released}
 pub data Event : Type 0 where
   -- a folder's texts are planned
   plans : List (List ℕ) → Event
-  -- the second ones are, and the first ones of them put again
+  -- the second texts are planned, and those of them put again that are among the first
   plans_again : List (List ℕ) → List (List ℕ) → Event
   releases : Event
   releases_again : Event
   -- the ticket of that number has its receipt
   receives : ℕ → Event
-  -- a release is told in the log
+  -- a release is added to the log
   notes : Released → Event
   -- a message is said of the release of that number
   says : ℕ → List ℕ → Event

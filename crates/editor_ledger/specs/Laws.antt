@@ -8,7 +8,8 @@ use Rattle.editor_ledger.specs.Sizes.{FitsBook}
 use Rattle.editor_ledger.specs.Spelling.{spelled}
 use Rattle.editor_ledger.specs.Steps.{planned}
 
--- two ledgers of one history, the later with any events more: a ticket that both have on its way has one text
+-- two ledgers of one history, the later with any further events: a ticket that both have on its way has
+-- one text
 abbrev pub EachTicketHasOneText : Type 0
 EachTicketHasOneText = (editor : ℕ) (events more : List Event) (g h : Given)
     → Contains (after_all events (fresh editor)).sent g
@@ -24,7 +25,7 @@ AreApart texts = (t u : List ℕ) → Contains texts t → Contains texts u → 
 abbrev pub AreAbout : List (List ℕ) → Type 0
 AreAbout texts = (t : List ℕ) → Contains texts t → IsSome (head_of t)
 
--- once each ticket of a plan has its receipt, in whatever order, what is put is what was wanted
+-- after each ticket of a plan has its receipt, in whatever order, what is put is what was wanted
 abbrev pub PlanTurns : Type 0
 PlanTurns = (editor : ℕ) (events : List Event) (wanted : List (List ℕ)) (numbers : List ℕ)
     → (after_all events (fresh editor)).sent ≡ []
@@ -35,8 +36,8 @@ PlanTurns = (editor : ℕ) (events : List Event) (wanted : List (List ℕ)) (num
     → Contains (after_all (map receives numbers) (planned wanted (after_all events (fresh editor)))).kept t
     ↔ Contains wanted t
 
--- what stood with nothing on its way is known by its last ticket for ever, whatever is planned, interrupted
--- and received later
+-- what the group had with nothing on its way stays known by its last ticket, whatever is planned,
+-- interrupted and received later
 abbrev pub PastsStay : Type 0
 PastsStay = (editor : ℕ) (events more : List Event)
     → (after_all events (fresh editor)).sent ≡ []

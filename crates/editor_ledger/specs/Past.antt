@@ -1,4 +1,4 @@
--- The texts that stood at a ticket.
+-- The texts that the group had at a ticket.
 use Rattle.std.specs.Prelude.{ℕ, ◌-◌, List, [], ◌∷◌, ◌++◌, filter, not, nat_lt, nat_le, ◌&&◌, if◌then◌else◌}
 use Rattle.std.specs.Prelude.{Bool}
 use Rattle.std.specs.List.{list_any, fold}

@@ -17,16 +17,16 @@ has_unshown book = nat_lt 1 (book.next - book.last_release)
 
 -- ---- tickets are given
 
--- texts under numbers that follow one another
+-- texts with successive numbers
 abbrev pub numbered : ℕ → List (List ℕ) → List Given
 numbered next [] = []
 numbered next (text ∷ more) = record { number = next; text = text } ∷ numbered (next + 1) more
 
--- the texts are on their way, under tickets that none had
+-- the texts are on their way, under tickets that no text had
 abbrev pub with_tickets : List (List ℕ) → Book → Book
 with_tickets texts book = record book { next = book.next + length texts; sent = numbered book.next texts }
 
--- what stood before each text of a plan is kept
+-- what the group had before each text of a plan is kept
 abbrev pub with_past : List (List ℕ) → Book → Book
 with_past plan book = record book { past = book.past ++ overtaken book.next book.kept plan }
 
@@ -59,7 +59,7 @@ noted given book =
     if bytes_eq given.text release_text then record book { last_release = given.number }
     else record book { kept = with_text given.text book.kept }
 
--- a ticket's text is on its way no more
+-- a ticket's text is no longer on its way
 abbrev pub without : ℕ → Book → Book
 without number book = record book { sent = filter (λ g. not (g.number == number)) book.sent }
 

@@ -12,14 +12,14 @@ subject_text head = head.kind ++ (32 ∷ head.name)
 abbrev pub count_about : Head → List (List ℕ) → ℕ
 count_about head texts = count_by (λ t. is_about head (head_of t)) texts
 
--- a number is as what is known of it says: 0, or 1 at most, or any
+-- a number is as is known of it: 0, or at most 1, or any
 abbrev pub IsBounded : Option Bool → ℕ → Type 0
 IsBounded None n = n ≡ 0
 IsBounded (Some false) n = n ≤ 1
 IsBounded (Some true) n = ⊤
 
--- the map says of each kind and name whether several of the texts may be about it; of one that it has not
--- none is
+-- the map says of each kind and name whether several of the texts may be about it; if the map lacks one,
+-- no text is about it
 abbrev pub Bounds : BTreeMap (String Global) Bool → List (List ℕ) → Type 0
 Bounds several texts =
     (head : Head) → IsBounded (get_by_text several (subject_text head)) (count_about head texts)

@@ -32,14 +32,14 @@ impl<T: Drop> From<AllocFailed<T>> for LedgerFault {
     }
 }
 
-/// Why a text is no ledger.
+/// Why a text is not a ledger.
 #[derive(Clone, Copy, Debug, Drop, PartialEq, Eq, Error)]
 pub enum LedgerReadFault {
     /// The line of that number, from 1, is the first that no ledger has. A text that was cut short lacks it.
     #[error("line {0} is not what sitepub wrote, or is missing: restore the file from a copy. Or move it \
         away (log, restore and publish --release need it), and publish with --take-over")]
     Line(usize),
-    /// Each line is one of a ledger, and the sum in the last line is another one's.
+    /// Each line is one of a ledger, but the sum in the last line is another one's.
     #[error("this is not what sitepub wrote, as the sum in its last line tells: restore the file from a \
         copy. Or move it away (log, restore and publish --release need it), and publish with --take-over")]
     Sum,

@@ -1,4 +1,4 @@
-//! Texts, found by themselves, and by what they are about.
+//! Sets of texts, and maps of texts by what they are about.
 ghost use Rattle.std.specs.Prelude.{◌≡◌, ℕ, List, [], ◌∷◌, ◌++◌, map, find, option_map, IfOk, OnOk};
 ghost use Rattle.std.specs.Prelude.{string_bytes};
 ghost use Rattle.std.specs.List.{list_any};
@@ -11,13 +11,13 @@ use crate::head::{Head, head_of};
 use std::alloc::{AllocError, Global};
 use std::collections::{BTreeMap, BTreeSet};
 
-/// Texts, found by themselves.
+/// A set of texts.
 pub(crate) type Texts<'a> = BTreeSet<&'a str>;
 
-/// Of each kind and name the first text about it.
+/// For each kind and name the first text about it.
 pub(crate) type Firsts<'a> = BTreeMap<(&'a str, &'a str), &'a str>;
 
-/// Texts, found by themselves.
+/// The set of these texts.
 pub(crate) fn texts_in(alloc: Global, texts: &[String]) -> Result<Texts<'_>, AllocError>
     ensures { IfOk result (λ set. HasTexts set (map string_bytes texts.now)) }
 {
@@ -49,7 +49,7 @@ pub(crate) fn note<'a>(firsts: &mut Firsts<'a>, text: &'a str) -> Result<(), All
     Ok(())
 }
 
-/// Lent texts, found by what they are about.
+/// For each kind and name the first of these borrowed texts about it.
 pub(crate) fn firsts_in<'a>(alloc: Global, texts: &[&'a str]) -> Result<Firsts<'a>, AllocError>
     ensures { IfOk result (λ firsts. HasFirsts firsts (map (λ t. t.now) texts.now)) }
 {
@@ -60,7 +60,7 @@ pub(crate) fn firsts_in<'a>(alloc: Global, texts: &[&'a str]) -> Result<Firsts<'
     Ok(firsts)
 }
 
-/// Texts, found by what they are about.
+/// For each kind and name the first of these texts about it.
 pub(crate) fn firsts_of(alloc: Global, texts: &[String]) -> Result<Firsts<'_>, AllocError>
     ensures { IfOk result (λ firsts. HasFirsts firsts (map string_bytes texts.now)) }
 {

@@ -23,7 +23,7 @@ fn cut(text: &str, at: char) -> Option<(&str, &str)>
     text.split_once(at)
 }
 
-/// What stands before the first such character; all where there is none.
+/// The text before the first such character; all of it if there is none.
 fn before(text: &str, at: char) -> &str
     requires { at < 128 }
     ensures { result.now ≡ before_first (λ b. b == at) text.now }
@@ -34,7 +34,7 @@ fn before(text: &str, at: char) -> &str
     }
 }
 
-/// The words of the first line; a release has too few.
+/// The first three words of the first line; a release has too few.
 pub(crate) fn head_of(text: &str) -> Option<Head<'_>>
     ensures { option_map head_view result ≡ head_of text.now }
 {

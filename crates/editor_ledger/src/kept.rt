@@ -1,7 +1,7 @@
 //! What the group has of a folder.
 //!
-//! A text about something that none was about is added without a look at the others; one about something that
-//! one at most is about takes its place, which is looked for from where the last one was found.
+//! If no text was about the same as a new one, the new text is added without a look at the others. If at most
+//! one is, the new text replaces it, and the search for it begins where the last one was found.
 ghost use Rattle.std.specs.Prelude.{◌≡◌, ◌≤◌, ℕ, List, ◌∷◌, [], ◌++◌, length, map, filter, not, Some, true};
 ghost use Rattle.std.specs.Prelude.{false, IfOk, OnOk, OnErr, string_bytes};
 ghost use Rattle.std.specs.BTreeMap.{get_by_text};
@@ -16,7 +16,7 @@ use std::alloc::{AllocError, Global};
 use std::collections::BTreeMap;
 use std::marker::Model;
 
-/// Of each kind and name that some text is or was about, with a space between: whether several may be.
+/// For each kind and name that some text is or was about, with a space between: whether several may be.
 type Several = BTreeMap<String, bool>;
 
 /// Texts in their order.
@@ -25,7 +25,7 @@ pub(crate) struct Kept {
     alloc: Global,
     texts: Vec<String>,
     several: Several,
-    /// Where the last text stood that another one took the place of.
+    /// The place of the last text that another one replaced.
     finger: usize,
 }
 
@@ -49,8 +49,8 @@ fn subject_text(alloc: Global, head: &Head<'_>) -> Result<String, AllocError>
     format!(in alloc; "{kind} {name}")
 }
 
-/// Where a text about what a head names may stand, looked for from a place on, and then before it. Whoever
-/// asks has a look himself.
+/// Where a text about what a head names may be, searched from a place on, and then before it. The caller
+/// checks the place itself.
 fn likely(texts: &[String], head: &Head<'_>, from: usize) -> usize {
     let from = from.min(texts.len());
     let (front, back) = texts.split_at(from);
@@ -73,7 +73,8 @@ fn take_all(kept: &mut Vec<String>, head: &Head<'_>)
     kept.retain(|had| !head.is_about(had.as_str()));
 }
 
-/// Takes out the text about what a head names, where one is at most; it stands at that place, or elsewhere.
+/// Takes out the text about what a head names, if there is at most one. It is at the place `at`, or
+/// elsewhere.
 fn take_one(kept: &mut Vec<String>, head: &Head<'_>, at: usize)
     ensures others { count_about (head_view head.now) (map string_bytes kept.old.items) ≤ 1
         → map string_bytes kept.new.items
@@ -88,7 +89,7 @@ fn take_one(kept: &mut Vec<String>, head: &Head<'_>, at: usize)
     }
 }
 
-/// Takes out what is about what a head names. Where it stood last is the answer.
+/// Takes out the texts about what a head names. The result is the place from which the next search begins.
 fn take_out(kept: &mut Vec<String>, head: &Head<'_>, several: bool, finger: usize) -> usize
     ensures others { (several ≡ false → count_about (head_view head.now) (map string_bytes kept.old.items)
         ≤ 1)
@@ -106,7 +107,7 @@ fn take_out(kept: &mut Vec<String>, head: &Head<'_>, several: bool, finger: usiz
     at
 }
 
-/// What was known of a kind and a name, which are known from then on.
+/// What was known of a head's kind and name. They are known from then on.
 fn know(alloc: Global, known: &mut Several, head: &Head<'_>) -> Result<Option<bool>, AllocError>
     ensures was { IfOk result (λ o. o ≡ get_by_text known.old (subject_text (head_view head.now))) }
     ensures ok { OnOk result ((t : List ℕ) → head_of t ≡ Some (head_view head.now) → (texts : List (List ℕ))
@@ -121,7 +122,7 @@ fn know(alloc: Global, known: &mut Several, head: &Head<'_>) -> Result<Option<bo
     Ok(None)
 }
 
-/// Takes out what is about the same as a text that is to come after the others.
+/// Takes out the texts about the same as a text that is to be added after the others.
 fn make_way(
     alloc: Global,
     kept: &mut Vec<String>,
@@ -149,7 +150,7 @@ fn make_way(
     Ok(())
 }
 
-/// Notes a text that comes after the others.
+/// Notes a text that is added after the others.
 fn know_more(alloc: Global, known: &mut Several, text: &str) -> Result<(), AllocError>
     ensures ok { OnOk result ((texts : List (List ℕ)) → Bounds known.old texts
         → Bounds known.new (texts ++ text.now ∷ [])) }

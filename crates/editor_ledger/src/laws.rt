@@ -5,12 +5,12 @@ pub fn each_ticket_has_one_text()
     ensures { EachTicketHasOneText }
 {}
 
-/// Once a plan has its receipts, what was published from the folder is the folder.
+/// After a plan has its receipts, what was published from the folder is the folder.
 pub fn plans_turn_sites()
     ensures { PlanTurns }
 {}
 
-/// What stood at a release stays known through later publications.
+/// What the group had at a release stays known through later publications.
 pub fn pasts_stay()
     ensures { PastsStay }
 {}

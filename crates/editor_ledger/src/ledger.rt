@@ -24,13 +24,13 @@ pub struct Ledger {
     pub(crate) next: u64,
     /// The ticket of the last release that has its receipt; 0 for none.
     pub(crate) last_release: u64,
-    /// The last text about each kind and name, as the receipts came.
+    /// The last text about each kind and name, in the order of the receipts.
     pub(crate) kept: Kept,
     /// What is on its way, in the order of the tickets.
     pub(crate) sent: Vec<Sent>,
     /// The releases, the oldest first.
     pub(crate) log: Vec<Released>,
-    /// What stood before each text that was planned, as they were planned.
+    /// What the group had before each text that was planned, in the order of planning.
     pub(crate) past: Vec<Past>,
     /// What was said of releases.
     pub(crate) messages: Vec<Message>,
@@ -63,7 +63,7 @@ impl Ledger {
     ghost use Rattle.editor_ledger.specs.Steps.{released_again, logged, messaged};
     ghost use Rattle.editor_ledger.specs.Plans.{plan_of, plan_again};
 
-    /// Of an editor that has published nothing.
+    /// The ledger of an editor that has published nothing.
     pub fn new(alloc: Global, editor: u32) -> Ledger
         ensures { result ≡ fresh editor }
     {
@@ -120,7 +120,7 @@ impl Ledger {
         self.log.as_slice()
     }
 
-    /// What stood before each text that was planned, as they were planned.
+    /// What the group had before each text that was planned, in the order of planning.
     pub fn past(&self) -> &[Past]
         ensures { map past_view result.now ≡ self.now.past }
     {
@@ -148,7 +148,7 @@ impl Ledger {
         self.next.saturating_sub(self.last_release) > 1
     }
 
-    /// The number of the next ticket once each of these texts has one.
+    /// The number of the next ticket after each of these texts has one.
     fn next_behind(&self, texts: &[String]) -> Result<u64, LedgerFault>
         ensures ok { IfOk result (λ n. (n ≡ self.now.next + length texts.now) × (n < 2 ^ 64)) }
         ensures tickets { result ≡ Err LedgerFault.NoTickets → 2 ^ 64 ≤ self.now.next + length texts.now }
@@ -159,7 +159,7 @@ impl Ledger {
         }
     }
 
-    /// Gives each text a ticket that none had.
+    /// Gives each text a ticket that no text had.
     fn give(&mut self, alloc: Global, texts: Vec<String>) -> Result<(), LedgerFault>
         ensures ok { OnOk result (self.new ≡ with_tickets (map string_bytes texts.items) self.old) }
         ensures err { OnErr result (self.new ≡ self.old) }
@@ -171,7 +171,7 @@ impl Ledger {
         Ok(())
     }
 
-    /// Gives the texts of a plan their tickets. What stood before each is kept.
+    /// Gives the texts of a plan their tickets. It keeps what the group had before each.
     fn take_plan(&mut self, alloc: Global, texts: Vec<String>) -> Result<(), LedgerFault>
         ensures ok { OnOk result (self.new
             ≡ with_tickets (map string_bytes texts.items)
@@ -197,7 +197,7 @@ impl Ledger {
     }
 
     /// Plans what turns the texts that the group has into the wanted ones, each about another kind and name.
-    /// What stood before each is kept.
+    /// It keeps what the group had before each.
     pub fn plan(&mut self, alloc: Global, wanted: &[&str]) -> Result<(), LedgerFault>
         requires { is_idle self.old ≡ true }
         ensures ok { OnOk result (self.new ≡ planned (map (λ t. t.now) wanted.now) self.old) }
@@ -228,7 +228,7 @@ impl Ledger {
         self.take_plan(alloc, texts)
     }
 
-    /// Plans the release of what the group has, where tickets were given since the last one.
+    /// Plans the release of what the group has, if tickets were given since the last one.
     pub fn plan_release(&mut self, alloc: Global) -> Result<(), LedgerFault>
         requires { is_idle self.old ≡ true }
         ensures ok { OnOk result (self.new ≡ release_planned self.old) }
@@ -243,8 +243,8 @@ impl Ledger {
         self.give(alloc, texts)
     }
 
-    /// Puts the last release on its way once more, under its own ticket, where there is one: nodes that were
-    /// all down learn their log once something is decided, and a ticket that was given does no harm.
+    /// Puts the last release on its way once more, under its own ticket, if there is one. Nodes that were all
+    /// down learn their log after something is decided, and a ticket that was given does no harm.
     pub fn release_again(&mut self, alloc: Global) -> Result<(), AllocError>
         requires { is_idle self.old ≡ true }
         ensures ok { OnOk result (self.new ≡ released_again self.old) }
@@ -262,7 +262,7 @@ impl Ledger {
         Ok(())
     }
 
-    /// The group has the text of the ticket.
+    /// Notes that the group has the text of the ticket.
     fn hold(&mut self, number: u64, text: String) -> Result<(), AllocError>
         ensures ok { OnOk result (self.new
             ≡ noted (record { number = number; text = string_bytes text }) self.old) }

@@ -1,4 +1,4 @@
-//! What stood before, and the texts that stood at a ticket.
+//! What the group had before a plan, and the texts that it had at a ticket.
 ghost use Rattle.std.specs.Prelude.{◌≡◌, ℕ, List, map, filter, not, IfOk, string_bytes};
 ghost use Rattle.editor_ledger.specs.Firsts.{HasFirsts};
 ghost use Rattle.editor_ledger.specs.Past.{is_among, olds_since, texts_at, reaches};
@@ -10,7 +10,7 @@ use crate::ledger::Ledger;
 use std::alloc::{AllocError, Global};
 use std::collections::BTreeMap;
 
-/// What stood before a text of a plan.
+/// What the group had before a text of a plan.
 #[derive(Drop)]
 pub struct Past {
     /// The number of the plan's first ticket.
@@ -44,7 +44,7 @@ fn olds_since(alloc: Global, ticket: u64, past: &[Past]) -> Result<Vec<String>, 
     Ok(olds)
 }
 
-/// Those of the texts that none of the others is about.
+/// The texts that the group has, except those about the same as one of `olds`.
 fn others<'a>(
     alloc: Global,
     kept: &'a [String],
@@ -64,9 +64,9 @@ fn others<'a>(
 }
 
 impl Ledger {
-    /// The texts that stood when the ticket was the last one: of each kind and name the first that was
-    /// overtaken since, or what the group has. They are those of a release with that ticket where the ledger
-    /// reaches it.
+    /// The texts that the group had when the ticket was the last one: of each kind and name the first that
+    /// was overtaken since, or else what the group has. They are those of a release with that ticket if the
+    /// ledger reaches it.
     pub fn texts_at(&self, alloc: Global, ticket: u64) -> Result<Vec<String>, AllocError>
         ensures { IfOk result (λ v. map string_bytes v.items ≡ texts_at ticket self.now) }
     {
@@ -76,7 +76,7 @@ impl Ledger {
         Ok(texts)
     }
 
-    /// Whether all that was overtaken since a ticket is kept: a file of before keeps nothing of it.
+    /// Whether all that was overtaken since a ticket is kept. An older file keeps nothing of it.
     pub fn reaches(&self, ticket: u64) -> bool
         ensures { result ≡ reaches ticket self.now }
     {

@@ -1,6 +1,6 @@
 //! What turns the texts that the group has into the wanted ones.
 //!
-//! Texts are looked for in sets and maps of them, so that a plan of n texts takes n log n comparisons.
+//! Texts are looked up in sets and maps, so a plan of n texts takes n log n comparisons.
 
 ghost use Rattle.std.specs.Prelude.{◌≡◌, ℕ, List, map, option_map, IfOk, string_bytes};
 ghost use Rattle.std.specs.List.{filter_map};
@@ -14,7 +14,7 @@ use crate::head::head_of;
 use crate::past::Past;
 use std::alloc::{AllocError, Global};
 
-/// The wanted texts that the group has not, in their order.
+/// The wanted texts that the group lacks, in their order.
 fn missing<'a>(
     alloc: Global,
     kept: &'a [String],
@@ -33,7 +33,7 @@ fn missing<'a>(
     Ok(plan)
 }
 
-/// The wanted texts that the group has not, or that are put again, in their order.
+/// The wanted texts that the group lacks, or that are put again, in their order.
 fn missing_or_again<'a>(
     alloc: Global,
     kept: &'a [String],
@@ -55,7 +55,7 @@ fn missing_or_again<'a>(
     Ok(plan)
 }
 
-/// The removal of what a text put, where no wanted text is about the same.
+/// The removal of what a text put, if no wanted text is about the same.
 fn removal_of<'a>(
     alloc: Global,
     wanted: &Firsts<'a>,
@@ -74,7 +74,7 @@ fn removal_of<'a>(
     }
 }
 
-/// The removals of what was put and is wanted no more.
+/// The removals of what was put and is no longer wanted.
 fn removals<'a>(
     alloc: Global,
     kept: &'a [String],
@@ -124,7 +124,7 @@ pub(crate) fn plan_again<'a>(
     Ok(plan)
 }
 
-/// What stands before a text: what the group has about the same, or the removal of that where it has nothing.
+/// What the group has before a text: its text about the same, or the removal of that if it has none.
 fn before_text<'a>(
     alloc: Global,
     kept: &Firsts<'a>,
@@ -142,7 +142,7 @@ fn before_text<'a>(
     }
 }
 
-/// What stands before the texts of a plan, whose first ticket has that number.
+/// What the group has before the texts of a plan. `since` is the number of the plan's first ticket.
 pub(crate) fn overtaken<'a>(
     alloc: Global,
     since: u64,

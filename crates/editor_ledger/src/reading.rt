@@ -21,7 +21,7 @@ struct Rest<'a> {
     line: usize,
 }
 
-/// What stands after the front lines.
+/// What follows the front lines.
 #[derive(Clone, Copy)]
 enum Entry<'a> {
     Released(Released),
@@ -69,7 +69,7 @@ impl<'a> Rest<'a> {
         number.parse().map_err(|_| LedgerReadFault::Line(self.line))
     }
 
-    /// A text of so many bytes, and a newline after it.
+    /// A text of `length` bytes that a newline follows, and what is left after it.
     fn counted(self, length: u64) -> Result<(&'a str, Rest<'a>), LedgerReadFault> {
         let fault = LedgerReadFault::Line(self.line);
         let (text, after) = self.text.split_at_checked(length as usize).ok_or(fault)?;
@@ -84,7 +84,7 @@ impl<'a> Rest<'a> {
         ))
     }
 
-    /// The release that the numbers of the first line tell, or one up to it.
+    /// The release by the numbers of the first line; if not `exact`, that one or one before it.
     fn released(self, numbers: &str, exact: bool) -> Result<Released, LedgerReadFault> {
         let (release, numbers) = self.parted(numbers)?;
         let (time, commands) = self.parted(numbers)?;
@@ -96,8 +96,8 @@ impl<'a> Rest<'a> {
         })
     }
 
-    /// The number and the text of an entry, whose numbers stand in the first line; its text stands after
-    /// that.
+    /// The number and the text of an entry: its numbers are in the first line, and its text follows that
+    /// line.
     fn numbered(
         self,
         numbers: &str,
@@ -108,7 +108,7 @@ impl<'a> Rest<'a> {
         Ok((self.parsed(number)?, text, rest))
     }
 
-    /// The entry that the first line begins; the rest stands after that line.
+    /// The entry that the first line begins, and what follows it.
     fn entry(self) -> Result<(Entry<'a>, Rest<'a>), LedgerReadFault> {
         let (line, rest) = self.line()?;
         match self.parted(line)? {
@@ -156,7 +156,7 @@ impl Ledger {
         Ok(())
     }
 
-    /// Enters all entries of what is left of a text, up to the last line. An entry takes a byte or more.
+    /// Enters all entries of what is left of a text, up to the last line. Each entry has at least one byte.
     fn enter_all(&mut self, alloc: Global, behind: Rest<'_>) -> Result<(), LedgerReadFault> {
         let mut rest = behind;
         for _ in 0..behind.text.len() {
@@ -171,7 +171,7 @@ impl Ledger {
     }
 }
 
-/// What the front lines tell.
+/// What the front lines say.
 #[derive(Clone, Copy)]
 struct Front {
     editor: u32,
@@ -179,7 +179,7 @@ struct Front {
     last_release: u64,
 }
 
-/// The front lines of a text, and what stands after them.
+/// The front lines of a text, and what follows them.
 fn front_of(text: &str) -> Result<(Front, Rest<'_>), LedgerReadFault> {
     let (version, rest) = Rest { text, line: 1 }.number("published")?;
     let (editor, rest) = rest.number("editor")?;
@@ -209,7 +209,7 @@ fn parsed(alloc: Global, text: &str) -> Result<Ledger, LedgerReadFault> {
     Ok(ledger)
 }
 
-/// How a text differs from the one that spells what it says: in the line of that number, or by its sum.
+/// How a text differs from the one that spells what it says: in the line with that number, or by its sum.
 fn difference(text: &str, spelled: &str) -> LedgerReadFault {
     let body = spelled.rsplit_once(LAST).map_or("", |(body, _)| body);
     if text.starts_with(body) {
@@ -226,7 +226,7 @@ fn difference(text: &str, spelled: &str) -> LedgerReadFault {
 }
 
 impl Ledger {
-    /// That text spells the ledger, or differs from what does: in a line, or by its sum alone.
+    /// Checks that a text spells the ledger. If it does not, it differs in a line, or only by its sum.
     fn is_spelled(&self, alloc: Global, text: &str) -> Result<(), LedgerReadFault>
         ensures ok { IfOk result (λ done. spelled self.now ≡ text.now) }
     {
@@ -238,8 +238,8 @@ impl Ledger {
         }
     }
 
-    /// Reads the text of a file back. What it reads is spelled by that very text, so that another spelling
-    /// of a number, or entries in another order, are a fault in the first line that a ledger would spell
+    /// Reads the text of a file back. Exactly this text spells the ledger that it reads. So another spelling
+    /// of a number, or another order of entries, is a fault in the first line that a ledger would spell
     /// otherwise.
     pub fn read(alloc: Global, text: &str) -> Result<Ledger, LedgerReadFault>
         ensures ok { IfOk result (λ ledger. spelled ledger ≡ text.now) }

@@ -12,7 +12,7 @@ pub struct Sent {
     pub text: String,
 }
 
-/// Texts under numbers that follow one another.
+/// Texts with successive numbers, from `next` on.
 pub(crate) fn numbered(
     alloc: Global,
     next: u64,
@@ -30,7 +30,7 @@ pub(crate) fn numbered(
     Ok(sent)
 }
 
-/// What is on its way under a number.
+/// The command that is on its way with this number.
 pub(crate) fn under(sent: &[Sent], number: u64) -> Option<&Sent>
     ensures { option_map (λ s. given_view s.now) result
         ≡ find (λ g. g.number == number) (map given_view sent.now) }
@@ -38,7 +38,7 @@ pub(crate) fn under(sent: &[Sent], number: u64) -> Option<&Sent>
     sent.iter().find(|sent| sent.number == number)
 }
 
-/// Takes what is under a number off its way.
+/// Takes the command with this number off its way.
 pub(crate) fn drop_under(sent: &mut Vec<Sent>, number: u64)
     ensures { map given_view sent.new.items
         ≡ filter (λ g. not (g.number == number)) (map given_view sent.old.items) }

@@ -16,7 +16,7 @@ pub record IsFlag (found : Found) (name : List ℕ) (flag : Bool) : Type 0 where
   pub up : one_text found name ≡ Some (codes "true") → flag ≡ true
   pub down : one_text found name ≡ Some (codes "false") → flag ≡ false
 
--- all values that were given under a name, as they stand
+-- all values that were given under a name, as they are
 abbrev pub values_given : Found → List ℕ → List (List ℕ)
 values_given found name = unwrap_or (option_map raw_values (matched_of found name)) []
 
@@ -26,12 +26,12 @@ pub record IsNumber (found : Found) (name : List ℕ) (number : Option ℕ) : Ty
   pub spelled : (t : List ℕ) → one_text found name ≡ Some t
       → IfSome number (λ n. n ≡ digits_value 10 (without_leading_plus t))
 
--- the same, where some number stands for none
+-- the same, with a number in place of none
 abbrev pub IsNumberOr : Found → List ℕ → ℕ → ℕ → Type 0
 IsNumberOr found name other number =
     (given : Option ℕ) × IsNumber found name given × (number ≡ unwrap_or given other)
 
--- what a publication was told
+-- what a publication was told to do
 pub record IsPublication (found : Found) (word : PublishWord) : Type 0 where
   pub folder : word.folder.now ≡ unwrap_or (first_value found (codes "folder")) []
   pub logins : option_map (λ s. s.now) word.logins ≡ first_value found (codes "logins")
@@ -45,12 +45,12 @@ pub record IsPublication (found : Found) (word : PublishWord) : Type 0 where
   pub take_over : IsFlag found (codes "take-over") word.take_over
   pub ignore : IsFlag found (codes "ignore") word.ignore
 
--- how a word was told to speak
+-- how a word was told to report
 pub record IsManner (found : Found) (manner : Manner) : Type 0 where
   pub quiet : IsFlag found (codes "quiet") manner.quiet
   pub json : IsFlag found (codes "json") manner.json
 
--- a word that is not told how to speak writes all, and no JSON
+-- a word that is not told how to report writes all, and no JSON
 abbrev pub manner_of : Word → Manner
 manner_of (Told word manner) = manner
 manner_of word = record { quiet = false; json = false }

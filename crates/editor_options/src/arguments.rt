@@ -2,7 +2,7 @@
 use clap::{Arg, ArgAction, Command};
 use std::alloc::{AllocError, Global};
 
-/// An argument of one value, which help calls so.
+/// An argument of one value. Help calls the value `called`.
 pub(crate) fn value<'a>(
     alloc: Global,
     name: &'static str,
@@ -40,7 +40,7 @@ pub(crate) fn ignore_flag<'a>(alloc: Global) -> Arg<'a> {
     )
 }
 
-/// A word that takes one argument more, where it could be made.
+/// A word that takes one argument more, if the word could be made.
 pub(crate) fn taking<'a>(
     word: Result<Command<'a>, AllocError>,
     argument: Arg<'a>,
@@ -74,7 +74,7 @@ pub(crate) fn site_word<'a>(
     folder_word(alloc, name, about, "The folder of the site")
 }
 
-/// A command that has one word more, where both could be made.
+/// A command that has one word more, if both could be made.
 pub(crate) fn with_word<'a>(
     command: Result<Command<'a>, AllocError>,
     word: Result<Command<'a>, AllocError>,

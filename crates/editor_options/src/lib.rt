@@ -1,7 +1,7 @@
-//! The command line of `sitepub`. It stands apart so that it is proved beside what its words do.
+//! The command line of `sitepub`. It is a crate of its own, so that it is proved beside what its words do.
 //!
-//! `line.rt` reads its words (`word.rt`), `arguments.rt` has what they are made of, `manner.rt` how they are
-//! to speak.
+//! `line.rt` reads its words (`word.rt`), `arguments.rt` has what they are made of, and `manner.rt` how they
+//! are to report.
 #![tactic(auto)]
 
 mod arguments;

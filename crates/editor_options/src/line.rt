@@ -11,13 +11,13 @@ use crate::word::{CheckWord, FileWord, PublishWord, StatusWord, ToldWord, Word};
 use clap::{Arg, ArgAction, ArgMatches, Command, Error};
 use std::alloc::{AllocError, Global};
 
-/// How many seconds may pass without progress, where none are given.
+/// How many seconds may pass without progress, if none are given.
 const PATIENCE: u64 = 60;
 
-/// The editor in whose tickets commands are framed, where none is given.
+/// The editor in whose tickets commands are framed, if none is given.
 const FRAMER: u32 = 1;
 
-/// Where a preview answers, where nothing else is said.
+/// The address at which a preview answers, if none is given.
 const PREVIEW: &str = "127.0.0.1:8000";
 
 fn new_word<'a>(alloc: Global) -> Result<Command<'a>, AllocError> {
@@ -292,7 +292,7 @@ fn matches_of<'a>(alloc: Global, words: &'a [String]) -> Result<ArgMatches<'a>, 
     command(alloc)?.try_get_matches_from(words)
 }
 
-/// A text that the word has; the empty one where it has none.
+/// A text that the word has; empty if it has none.
 fn text<'a>(matches: &ArgMatches<'a>, id: &str) -> &'a str
     ensures { result.now ≡ unwrap_or (first_value (found_of matches.now) id.now) [] }
 {
@@ -302,7 +302,7 @@ fn text<'a>(matches: &ArgMatches<'a>, id: &str) -> &'a str
     }
 }
 
-/// All that were given as a URL.
+/// All URLs that were given.
 fn urls<'a>(alloc: Global, matches: &ArgMatches<'a>) -> Result<Vec<&'a str>, AllocError>
     ensures { IfOk result (λ urls. map (λ u. u.now) urls.items
         ≡ values_given (found_of matches.now) (codes "url")) }
@@ -327,7 +327,7 @@ fn release_in(found: &ArgMatches<'_>) -> Option<u64>
     found.get_one::<u64>("release")
 }
 
-/// For how many seconds something is waited for.
+/// How many seconds may pass without progress.
 fn patience_in(found: &ArgMatches<'_>) -> u64
     ensures { IsNumberOr (found_of found.now) (codes "patience") PATIENCE result }
 {
@@ -396,7 +396,7 @@ fn file_word_of<'a>(name: &str, found: &ArgMatches<'a>) -> Option<FileWord<'a>> 
     })
 }
 
-/// The word of that name that is told how to speak, if it is one.
+/// The word of that name that is told how to report, if it is one.
 fn told_word_of<'a>(
     alloc: Global,
     name: &str,
@@ -433,8 +433,8 @@ fn word_of<'a>(
     Ok(told.map(|word| Word::Told(word, manner_in(found))))
 }
 
-/// Reads the words of a command line, the program's name first. `clap` says why it refuses others, help among
-/// it.
+/// Reads the words of a command line, the program's name first. If `clap` refuses them, its fault says why;
+/// help is such a fault.
 pub fn word_in<'a>(alloc: Global, words: &'a [String]) -> Result<Option<Word<'a>>, Error> {
     let matches = matches_of(alloc, words)?;
     match matches.subcommand() {

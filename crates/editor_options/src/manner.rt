@@ -1,4 +1,4 @@
-//! How a word is to speak.
+//! How a word is to report.
 ghost use Rattle.clap.specs.Words.{found_of};
 ghost use Rattle.editor_options.specs.Words.{IsManner};
 
@@ -6,12 +6,12 @@ use crate::arguments::{flag, taking};
 use clap::{Arg, ArgMatches, Command};
 use std::alloc::{AllocError, Global};
 
-/// How a word is to speak.
+/// How a word is to report.
 #[derive(Clone, Copy, Debug, Drop, PartialEq, Eq)]
 pub struct Manner {
-    /// Nothing is written but why its status is not 0.
+    /// It writes only why its status is not 0.
     pub quiet: bool,
-    /// Standard output has what it came to as one JSON object, and nothing else.
+    /// Standard output has the outcome as one JSON object, and nothing else.
     pub json: bool,
 }
 
@@ -31,7 +31,7 @@ fn quiet_flag<'a>(alloc: Global) -> Arg<'a> {
     )
 }
 
-/// A word that is told how to speak.
+/// A word that is told how to report.
 pub(crate) fn speaking<'a>(
     alloc: Global,
     word: Result<Command<'a>, AllocError>,
@@ -40,7 +40,7 @@ pub(crate) fn speaking<'a>(
     taking(word, quiet_flag(alloc))
 }
 
-/// What a word was told.
+/// How a word was told to report.
 pub(crate) fn manner_in(found: &ArgMatches<'_>) -> Manner
     ensures { IsManner (found_of found.now) result }
 {

@@ -15,7 +15,7 @@ pub enum Word<'a> {
         http: &'a str,
         ignore: bool,
     },
-    /// Speaks to people or to programs, as it is told.
+    /// Reports to people or to programs, as it is told.
     Told(ToldWord<'a>, Manner),
 }
 
@@ -51,16 +51,16 @@ pub enum FileWord<'a> {
     },
 }
 
-/// A word that is told how to speak.
+/// A word that is told how to report.
 #[derive(Drop)]
 pub enum ToldWord<'a> {
-    /// Tells what is wrong with a folder.
+    /// Prints what is wrong with a folder.
     Check(CheckWord<'a>),
     /// Makes a folder the next release of a group.
     Publish(PublishWord<'a>),
-    /// Tells the releases of a folder.
+    /// Prints the releases of a folder.
     Log { folder: &'a str },
-    /// Tells what each node says of itself, and whether the group shows what a folder made.
+    /// Prints what each node says of itself, and whether the group shows what a folder made.
     Status(StatusWord<'a>),
 }
 
@@ -83,7 +83,7 @@ pub struct PublishWord<'a> {
     pub editor: Option<u32>,
     /// How many seconds may pass without progress.
     pub patience: u64,
-    /// Nothing is sent: what would be is told.
+    /// Nothing is sent: what would be sent is printed.
     pub dry_run: bool,
     /// The status says whether a dry run found something to send.
     pub exit_code: bool,
@@ -93,7 +93,7 @@ pub struct PublishWord<'a> {
     pub release: Option<u64>,
     /// What is said of the release that is made.
     pub message: Option<&'a str>,
-    /// Files that are no part of a site are passed over.
+    /// Files that are not part of a site are ignored.
     pub ignore: bool,
 }
 
@@ -105,7 +105,7 @@ pub struct StatusWord<'a> {
 }
 
 impl Word<'_> {
-    /// How it is to speak.
+    /// How the word is to report.
     pub fn manner(&self) -> Manner
         ensures { result ≡ manner_of self.now }
     {

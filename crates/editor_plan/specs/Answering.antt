@@ -1,6 +1,6 @@
--- How many milliseconds nodes have to answer that were asked so many times before, where so many seconds may
--- pass in all, of which so many milliseconds have: at first few, then more, but no longer than the seconds
--- that are left, and a second at least.
+-- How many milliseconds nodes have to answer. They were asked `times` times before; `patience` seconds
+-- may pass in all, and `passed` milliseconds have passed. At first they have few, then more, but no
+-- longer than the seconds that are left, and a second at least.
 use Rattle.std.specs.Prelude.{ℕ, ◌-◌, ◌*◌, ◌/◌, ◌==◌, max, min, if◌then◌else◌}
 use Rattle.editor_plan.specs.declared.answering.TheConstants.{FIRST_ANSWERS, LATER_ANSWERS}
 

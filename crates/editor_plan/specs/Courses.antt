@@ -6,7 +6,7 @@ use Rattle.editor_ledger.specs.Steps.{is_idle, has_unshown, planned, release_pla
 use Rattle.editor_plan.specs.declared.course.Stage.{Stage}
 use Rattle.editor_plan.specs.declared.course.Stage.TheVariants.{Sends, Done}
 
--- the commands, or where there are none their release; neither while something is on its way
+-- the commands, or their release if there are none; neither while something is on its way
 abbrev pub advanced : List (List ℕ) → Book → Book
 advanced wanted book = release_planned (planned wanted book)
 
@@ -20,6 +20,6 @@ pub record IsDone (wanted : List (List ℕ)) (old new : Book) : Type 0 where
   pub has_all : plan_of old.kept wanted ≡ []
   pub shown : has_unshown old ≡ false
 
--- the plan and its release want more tickets than numbers of 64 bits are left
+-- the plan and its release need more tickets than there are numbers left in 64 bits
 abbrev pub LacksTickets : List (List ℕ) → Book → Type 0
 LacksTickets wanted book = 2 ^ 64 ≤ book.next + length (plan_of book.kept wanted) + 1

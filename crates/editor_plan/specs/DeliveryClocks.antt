@@ -10,7 +10,7 @@ use Rattle.editor_plan.specs.declared.delivery_clock.DeliveryClock.{DeliveryCloc
 abbrev pub first_clock : DeliveryClock
 first_clock = record { moved = 0; stayed = 0; rest = FIRST_REST }
 
--- another node is spoken to where this one is silent, or has given no receipt for so long
+-- another node is spoken to if this one is silent, or has given no receipt for `STAYING` milliseconds
 abbrev pub turns : Came → ℕ → DeliveryClock → Bool
 turns Receipt now p = false
 turns Answers now p = nat_le STAYING (now - p.stayed)
@@ -25,7 +25,7 @@ clock_after Answers now p =
     else record { moved = p.moved; stayed = p.stayed; rest = min (p.rest * 2) LONGEST_REST }
 clock_after Silence now p = record { moved = p.moved; stayed = now; rest = FIRST_REST }
 
--- no receipt came for so many seconds
+-- no receipt came for `patience` seconds
 abbrev pub is_over : ℕ → ℕ → DeliveryClock → Bool
 is_over now patience p = nat_le patience ((now - p.moved) / 1000)
 
@@ -35,7 +35,7 @@ step_of Answers now patience p =
     if is_over now patience p then GiveUp else (if turns Answers now p then Next else Again p.rest)
 step_of Silence now patience p = if is_over now patience p then GiveUp else Next
 
--- how many milliseconds an exchange that begins now waits for an answer: as long as a node is stayed with,
--- but no longer than the seconds that are left
+-- how many milliseconds an exchange that begins now waits for an answer: as long as a delivery stays with
+-- a node, but no longer than the seconds that are left
 abbrev pub within_of : ℕ → ℕ → DeliveryClock → ℕ
 within_of now patience p = max 1 (min (STAYING / 1000) (patience - (now - p.moved) / 1000)) * 1000

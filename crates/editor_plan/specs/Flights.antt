@@ -32,7 +32,7 @@ abbrev pub heard_of : Ask → ℕ → Heard
 heard_of (Receipt number) status = receipt_heard status
 heard_of (Submit number) status = submission_heard status
 
--- a receipt alone moves a ledger
+-- only a receipt moves a ledger
 abbrev pub after_hearing : Ask → ℕ → Book → Book
 after_hearing (Receipt number) status book = if status == 200 then received number book else book
 after_hearing (Submit number) status book = book

@@ -15,7 +15,7 @@ TicketsHaveOneText = (editor : ℕ) (moves more : List Move) (g h : Given)
     → g.number ≡ h.number
     → g.text ≡ h.text
 
--- where it says that all is done, what has its receipts and is put is the folder
+-- if a publication says that all is done, the puts that have their receipts are the folder's
 abbrev pub DoneIsTheFolder : Type 0
 DoneIsTheFolder = (editor : ℕ) (moves : List Move) (wanted : List (List ℕ))
     → IsDone wanted (moved_all moves (fresh editor)) (moved_all moves (fresh editor))

@@ -9,13 +9,13 @@ use Rattle.editor_plan.specs.Flights.{after_hearing}
 use Rattle.editor_plan.specs.declared.flight.Ask.{Ask}
 
 pub data Move : Type 0 where
-  -- a folder of these texts goes on
+  -- the publication of a folder of these texts goes on
   advances : List (List ℕ) → Move
-  -- a folder of the second texts puts the first ones of them again
+  -- a folder of the second texts puts those of them again that are among the first
   plans_again : List (List ℕ) → List (List ℕ) → Move
   -- an answer with that status is heard
   hears : Ask → ℕ → Move
-  -- a release is told in the log
+  -- a release is added to the log
   notes : Released → Move
   -- a message is said of the release of that number
   says : ℕ → List ℕ → Move

@@ -26,8 +26,8 @@ is_unknown Given = false
 is_unknown Unknown = true
 is_unknown Nothing = false
 
--- with nothing on its way the ticket before the next one, else that of the last release: it has its receipt
--- by the ledger
+-- the ticket before the next one if nothing is on its way, else that of the last release: it has its
+-- receipt by the ledger
 abbrev pub last_ticket : Book → ℕ
 last_ticket book = if is_idle book then book.next - 1 else book.last_release
 
@@ -39,12 +39,12 @@ release_of (Some released) = released.release
 abbrev pub last_shown : Book → ℕ
 last_shown book = release_of (slice_get book.log (length book.log - 1))
 
--- the node shows an older release than that: it has not learned again what it had
+-- the node shows an older release than `shown`: it has not learned again what it had
 abbrev pub is_behind : ℕ → Option ℕ → Bool
 is_behind shown None = false
 is_behind shown (Some newest) = nat_lt newest shown
 
--- the node knows the last ticket, where there is one, and not the next
+-- the node knows the last ticket, if there is one, and not the next
 abbrev pub confirms : ℕ → Witness → Bool
 confirms last w = is_unknown w.next && (last == 0 || is_given w.last)
 
@@ -52,8 +52,8 @@ confirms last w = is_unknown w.next && (last == 0 || is_given w.last)
 abbrev pub is_elsewhere : ℕ → Witness → Bool
 is_elsewhere shown w = is_unknown w.next && not (is_behind shown w.newest)
 
--- newest is what a node confirms, and no node knows more; where all that answer are behind, the group is
--- still coming back
+-- a ledger is the newest if a node confirms it, and no node knows more; if all that answer are behind,
+-- the group is still coming back
 abbrev pub standing_of : ℕ → ℕ → List Witness → Standing
 standing_of last shown ws =
     if list_any (λ w. is_given w.next) ws then Older

@@ -18,7 +18,7 @@ stops_after last (g ∷ past) =
 abbrev pub stops : Book → List ℕ
 stops book = book.last_release ∷ stops_after book.last_release book.past
 
--- the folder's texts once the group also has those that are on their way
+-- the folder's texts after the group also has those that are on their way
 abbrev pub with_sent : Book → List (List ℕ)
 with_sent book = book.kept ++ map (λ g. g.text) book.sent
 

@@ -1,25 +1,25 @@
--- What the log tells of tickets: that of a release, and a release that has its receipt, and that the log does
--- not tell.
+-- What the log says of tickets: the ticket of a release, and a release that has its receipt and is not in
+-- the log.
 use Rattle.std.specs.Prelude.{ℕ, ◌-◌, ◌==◌, List, [], ◌∷◌, if◌then◌else◌, Option, Some, None}
 use Rattle.std.specs.List.{fold}
 use Rattle.editor_ledger.specs.Books.{Book}
 use Rattle.editor_ledger.specs.declared.released.Released.{Released}
 
--- a release that is told has its own ticket, and those of its commands
+-- a release of the log has its own ticket, and those of its commands
 abbrev pub less : ℕ → Released → ℕ
 less left released = left - released.commands - 1
 
--- the tickets up to the last release of which the log tells nothing
+-- how many tickets up to the last release the log leaves out
 abbrev pub tickets_left : ℕ → List Released → ℕ
 tickets_left last log = fold less last log
 
--- how many commands that release shows
+-- how many commands the release shows that is not in the log
 abbrev pub unlogged : Book → Option ℕ
 unlogged book =
     if tickets_left book.last_release book.log == 0 then None else Some
     (tickets_left book.last_release book.log - 1)
 
--- the ticket of the last release of that number, where so many tickets up to the last one are left for this
+-- the ticket of the last release of that number, if `left` tickets up to the last one are left for this
 -- part of a log
 abbrev pub ticket_in : ℕ → ℕ → ℕ → List Released → Option ℕ → Option ℕ
 ticket_in release last left [] found = found

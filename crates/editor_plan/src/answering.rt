@@ -5,12 +5,13 @@ ghost use Rattle.editor_plan.specs.Answering.{answers_within};
 /// How many milliseconds they have the first time.
 pub const FIRST_ANSWERS: u64 = 2_000;
 
-/// How many milliseconds they have later at most.
+/// How many milliseconds they have at most later.
 pub const LATER_ANSWERS: u64 = 10_000;
 
-/// How many milliseconds nodes have that were asked so many times before, where so many seconds may pass in
-/// all, of which so many milliseconds have: at first few, so that an editor soon learns which are silent;
-/// then more, since a busy node answers late, but no longer than the seconds that are left.
+/// How many milliseconds nodes have to answer. They were asked `times` times before; `patience` seconds may
+/// pass in all, and `passed` milliseconds have passed. At first they have few, so that an editor soon learns
+/// which are silent. Then they have more, since a busy node answers late, but no longer than the seconds that
+/// are left.
 pub fn answers_within(times: u64, passed: u64, patience: u64) -> u64
     ensures { result ≡ answers_within times passed patience }
 {

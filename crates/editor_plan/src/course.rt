@@ -9,7 +9,7 @@ use std::alloc::Global;
 /// How a publication goes on.
 #[derive(Clone, Copy, Debug, Drop, PartialEq, Eq)]
 pub enum Stage {
-    /// Something is on its way: the ledger is to be saved, and that to be sent.
+    /// Something is on its way: the ledger is to be saved, then the commands are to be sent.
     Sends,
     /// The group has the folder, and has released it.
     Done,
@@ -25,7 +25,7 @@ fn stage_of(ledger: &Ledger) -> Stage
     }
 }
 
-/// Plans what the group has not of a folder's texts, while nothing is on its way.
+/// Plans the texts of a folder that the group lacks, if nothing is on its way.
 fn plan_texts(alloc: Global, ledger: &mut Ledger, wanted: &[&str]) -> Result<(), LedgerFault>
     ensures ok { OnOk result (ledger.new ≡ planned (map (λ t. t.now) wanted.now) ledger.old) }
     ensures err { OnErr result (ledger.new ≡ ledger.old) }
@@ -38,7 +38,7 @@ fn plan_texts(alloc: Global, ledger: &mut Ledger, wanted: &[&str]) -> Result<(),
     Ok(())
 }
 
-/// Plans that, or else the release.
+/// Plans these texts, or the release if there are none.
 fn plan_next(alloc: Global, ledger: &mut Ledger, wanted: &[&str]) -> Result<(), LedgerFault>
     ensures ok { OnOk result (ledger.new ≡ advanced (map (λ t. t.now) wanted.now) ledger.old) }
     ensures err { OnErr result (ledger.new ≡ ledger.old) }
@@ -52,9 +52,10 @@ fn plan_next(alloc: Global, ledger: &mut Ledger, wanted: &[&str]) -> Result<(), 
     Ok(())
 }
 
-/// Plans what is to be sent next of a folder of these texts: nothing more while something is on its way; else
-/// the texts that the group has not and the removals of those that it has and the folder has not; else their
-/// release. It lacks tickets only where their numbers no longer fit 64 bits.
+/// Plans what a folder of these texts sends next. While something is on its way it plans nothing more.
+/// Otherwise it plans the texts that the group lacks, and the removals of those that the group has and the
+/// folder lacks; if there are none, their release. It fails with `NoTickets` only if the numbers of tickets
+/// no longer fit 64 bits.
 pub fn advance(alloc: Global, ledger: &mut Ledger, wanted: &[&str]) -> Result<Stage, LedgerFault>
     ensures ok { OnOk result (ledger.new ≡ advanced (map (λ t. t.now) wanted.now) ledger.old) }
     ensures stage { IfOk result (λ stage. stage ≡ stage_of ledger.new) }

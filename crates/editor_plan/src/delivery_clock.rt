@@ -2,17 +2,17 @@
 ghost use Rattle.std.specs.Prelude.{◌≡◌};
 ghost use Rattle.editor_plan.specs.DeliveryClocks.{first_clock, turns, clock_after, step_of, within_of};
 
-/// How many milliseconds a node may give no receipt before the next one is spoken to.
+/// For how many milliseconds a node may give no receipt before the next one is spoken to.
 pub(crate) const STAYING: u64 = 5_000;
 
-/// How many milliseconds lie between two exchanges with a node at first: twice as many each time that no
-/// receipt came.
+/// How many milliseconds a delivery rests at first between two exchanges with a node. It doubles them each
+/// time that no receipt came.
 pub(crate) const FIRST_REST: u64 = 2;
 
-/// How many lie between them at most, and between two rounds over all nodes.
+/// How many milliseconds it rests at most between them, and between two rounds over all nodes.
 pub const LONGEST_REST: u64 = 250;
 
-/// What an exchange with a node came to.
+/// What came of an exchange with a node.
 #[derive(Clone, Copy, Debug, Drop, PartialEq, Eq)]
 pub enum Came {
     /// A receipt, or several.
@@ -26,7 +26,7 @@ pub enum Came {
 /// How a delivery goes on.
 #[derive(Clone, Copy, Debug, Drop, PartialEq, Eq)]
 pub enum Step {
-    /// With the same node, in so many milliseconds.
+    /// With the same node, after that many milliseconds.
     Again(u64),
     /// With the next node.
     Next,
@@ -34,19 +34,19 @@ pub enum Step {
     GiveUp,
 }
 
-/// When a delivery moved, in milliseconds since it began.
+/// When a delivery made progress, in milliseconds since it began.
 #[derive(Clone, Copy, Drop)]
 pub struct DeliveryClock {
-    /// When a receipt came last.
+    /// When the last receipt came.
     moved: u64,
-    /// When one came last from the node that is spoken to, or it was spoken to first.
+    /// When the last one came from the node that is spoken to, or else when that was first spoken to.
     stayed: u64,
-    /// How many milliseconds are rested next.
+    /// How many milliseconds the next rest takes.
     rest: u64,
 }
 
 impl DeliveryClock {
-    /// That of a delivery which begins.
+    /// The clock of a delivery that begins.
     pub fn new() -> DeliveryClock
         ensures { result ≡ first_clock }
     {
@@ -68,7 +68,7 @@ impl DeliveryClock {
         }
     }
 
-    /// What an exchange that ended now makes of it.
+    /// The clock after an exchange that ended now.
     fn after(self, came: Came, now: u64) -> DeliveryClock
         ensures { result ≡ clock_after came now self }
     {
@@ -93,7 +93,7 @@ impl DeliveryClock {
         }
     }
 
-    /// How many milliseconds an exchange that begins now waits for an answer, where so many seconds may pass
+    /// How many milliseconds an exchange that begins now waits for an answer, if `patience` seconds may pass
     /// without a receipt.
     pub fn within(&self, now: u64, patience: u64) -> u64
         ensures { result ≡ within_of now patience self.now }
@@ -102,7 +102,8 @@ impl DeliveryClock {
         left.min(STAYING / 1000).max(1) * 1000
     }
 
-    /// How it goes on after an exchange that ended now, where so many seconds may pass without a receipt.
+    /// How the delivery goes on after an exchange that ended now, if `patience` seconds may pass without a
+    /// receipt.
     pub fn step(&mut self, came: Came, now: u64, patience: u64) -> Step
         ensures clock { self.new ≡ clock_after came now self.old }
         ensures step { result ≡ step_of came now patience self.old }

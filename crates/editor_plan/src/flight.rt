@@ -8,7 +8,7 @@ use editor_ledger::{Ledger, Sent};
 use std::alloc::{AllocError, Global};
 use std::marker::Model;
 
-/// At most so many commands are with a node without a receipt: as many may wait there.
+/// The most commands that a node has taken without a receipt: as many may wait there.
 pub(crate) const ROOM: usize = 64;
 
 /// What is asked of a node for the command of a ticket.
@@ -97,7 +97,7 @@ fn receipt_heard(status: u16) -> Heard
 }
 
 impl Flight {
-    /// A node has taken nothing yet.
+    /// The flight of a node that has taken nothing yet.
     pub fn new(alloc: Global) -> Flight
         ensures { result ≡ [] }
     {
@@ -106,9 +106,9 @@ impl Flight {
         }
     }
 
-    /// What is asked of the node next, in this order, for what is on its way: the receipts of what it has
-    /// taken, and then to take what it was not given yet, as far as there is room. The answers are heard in
-    /// the same order.
+    /// What is asked of the node next for what is on its way, in this order: the receipts of what it has
+    /// taken, then to take what it was not given yet, as far as there is room. The answers are heard in the
+    /// same order.
     pub fn asks(&self, alloc: Global, sent: &[Sent]) -> Result<Vec<Ask>, AllocError>
         ensures { IfOk result (λ asks. asks.items ≡ asks_of self.now (map (λ s. s.number) sent.now)) }
     {

@@ -5,7 +5,7 @@ pub fn tickets_have_one_text()
     ensures { TicketsHaveOneText }
 {}
 
-/// Where a publication says that all is done, the puts that have their receipts are the folder's.
+/// If a publication says that all is done, the puts that have their receipts are the folder's.
 pub fn done_is_the_folder()
     ensures { DoneIsTheFolder }
 {}

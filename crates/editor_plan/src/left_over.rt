@@ -7,9 +7,9 @@ use editor_ledger::Ledger;
 /// Commands of a folder that no release of it has: the next release of any editor shows those in the log.
 #[derive(Clone, Copy, Debug, Drop, PartialEq, Eq)]
 pub struct LeftOver {
-    /// So many have their receipts, so they are in the log.
+    /// How many have their receipts, and so are in the log.
     pub logged: u64,
-    /// So many are on their way, and may be in the log.
+    /// How many are on their way, and may be in the log.
     pub on_their_way: usize,
 }
 
@@ -29,7 +29,7 @@ pub fn left_by(ledger: &Ledger) -> LeftOver
 }
 
 impl LeftOver {
-    /// Whether there is nothing.
+    /// Whether nothing was left.
     pub fn is_none(&self) -> bool
         ensures { result ≡ (self.now.logged == 0 && self.now.on_their_way == 0) }
     {

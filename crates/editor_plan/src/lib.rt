@@ -2,14 +2,14 @@
 //! next, and what an answer means.
 //!
 //! `standing.rt` judges a ledger by what nodes say of two tickets and show. `course.rt` plans: first the
-//! commands, then their release. `flight.rt` says what is asked of a node next, and hears its answers: the
-//! ledger moves by receipts alone. `taking.rt` says what is taken over from others, `states.rt` what a
-//! release may show of the folder itself, `left_over.rt` what an interrupted run left. `answering.rt` says
-//! how long nodes that are asked at once have to answer, `delivery_clock.rt` how long a node is stayed with
-//! and waited for, `progress.rt` what is told meanwhile. `logging.rt` finds the ticket of a release, and a
-//! release that the log does not tell. `laws.rt` says what follows, for every interruption and continuation.
-//! Nothing here sends, waits or saves: `editor_group` and `editor_publish` do, and save a plan before any of
-//! it is sent.
+//! commands, then their release. `flight.rt` says what is asked of a node next, and hears its answers: only
+//! receipts move the ledger. `taking.rt` says what is taken over from others, `states.rt` what a release may
+//! show of the folder itself, and `left_over.rt` what an interrupted run left. `answering.rt` says how long
+//! nodes that are asked at once have to answer. `delivery_clock.rt` says how long a delivery stays with a
+//! node and waits for it, and `progress.rt` what is printed meanwhile. `logging.rt` finds the ticket of a
+//! release, and a release that is not in the log. `laws.rt` says what follows, for every interruption and
+//! continuation. Nothing here sends, waits or saves: `editor_group` and `editor_publish` do, and save a plan
+//! before any of it is sent.
 #![tactic(auto)]
 
 mod answering;

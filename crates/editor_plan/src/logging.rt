@@ -1,11 +1,11 @@
-//! What the log tells of tickets: that of a release, and a release that has its receipt, and that the log
-//! does not tell.
+//! What the log says of tickets: the ticket of a release, and a release that has its receipt and is not in
+//! the log.
 ghost use Rattle.std.specs.Prelude.{◌≡◌, None};
 ghost use Rattle.editor_plan.specs.Unlogged.{tickets_left, unlogged, ticket_in, ticket_of};
 
 use editor_ledger::{Ledger, Released};
 
-/// How many tickets up to the last release a log tells nothing of: each of its releases has its own, and
+/// How many tickets up to the last release a log leaves out. Each of its releases has its own ticket, and
 /// those of its commands.
 fn tickets_left(last: u64, log: &[Released]) -> u64
     ensures { result ≡ tickets_left last log.now }
@@ -17,8 +17,8 @@ fn tickets_left(last: u64, log: &[Released]) -> u64
     left
 }
 
-/// How many commands a release shows that has its receipt, and that the log does not tell: its node told
-/// no number, or the run ended before that was asked for. Nothing where the log tells all releases.
+/// How many commands a release shows that has its receipt and is not in the log: its node said no number, or
+/// the run ended before it asked for that. `None` if the log has all releases.
 pub fn unlogged(ledger: &Ledger) -> Option<u64>
     ensures { result ≡ unlogged ledger.now }
 {
@@ -26,7 +26,7 @@ pub fn unlogged(ledger: &Ledger) -> Option<u64>
     if left == 0 { None } else { Some(left - 1) }
 }
 
-/// The ticket of a release that a log tells, up to the last release's.
+/// The ticket of a release that a log has, up to the last release's.
 fn ticket_in(release: u64, last: u64, log: &[Released]) -> Option<u64>
     ensures { result ≡ ticket_in release last last log.now None }
 {
@@ -41,8 +41,8 @@ fn ticket_in(release: u64, last: u64, log: &[Released]) -> Option<u64>
     found
 }
 
-/// The ticket of a release of a folder, by what the log tells of it and those before; of several with that
-/// number the last.
+/// The ticket of a release of a folder, by what the log says of it and of those before. If several have that
+/// number, it is the ticket of the last.
 pub fn ticket_of(ledger: &Ledger, release: u64) -> Option<u64>
     ensures { result ≡ ticket_of release ledger.now }
 {

@@ -1,38 +1,39 @@
-//! What is told of a delivery while it is under way, when, and when its ledger is saved meanwhile.
+//! What is printed of a delivery while it is under way, and when; and when its ledger is saved meanwhile.
 ghost use Rattle.std.specs.Prelude.{◌≡◌};
 ghost use Rattle.editor_plan.specs.Progresses.{first_progress, is_counted, count_told, after_count, is_kept};
 ghost use Rattle.editor_plan.specs.Progresses.{after_keeping, falls_silent, after_exchange};
 
 use crate::delivery_clock::Came;
 
-/// How many commands have their receipts is told once in so many milliseconds.
+/// How many milliseconds pass before the number of receipts is printed again.
 pub(crate) const EACH: u64 = 1_000;
 
-/// That no receipt came is told after so many milliseconds.
+/// After how many milliseconds it is printed that no receipt came.
 pub(crate) const SILENCE: u64 = 2_000;
 
-/// The ledger is saved again after more than one of so many equal parts of the commands.
+/// The number of equal parts of the commands: the ledger is saved again after more than one part has its
+/// receipts.
 pub(crate) const PARTS: usize = 16;
 
-/// What was told of a delivery, and when, in milliseconds since it began.
+/// What was printed of a delivery, and when, in milliseconds since it began.
 #[derive(Clone, Copy, Drop)]
 pub struct Progress {
-    /// So many commands are brought in all.
+    /// How many commands are brought in all.
     all: usize,
-    /// So many of them had their receipts when that was told last.
+    /// How many of them had their receipts when that was last printed.
     told: usize,
-    /// So many of them had their receipts when the ledger was saved last.
+    /// How many of them had their receipts when the ledger was last saved.
     kept: usize,
-    /// When their number was told last.
+    /// When their number was last printed.
     at: u64,
-    /// When a receipt came last.
+    /// When the last receipt came.
     moved: u64,
-    /// Whether it was told that none came since.
+    /// Whether it was printed that none came since.
     silent: bool,
 }
 
 impl Progress {
-    /// That of a delivery of so many commands, which begins.
+    /// The progress of a delivery of `all` commands that begins.
     pub fn new(all: usize) -> Progress
         ensures { result ≡ first_progress all }
     {
@@ -53,14 +54,14 @@ impl Progress {
         self.all
     }
 
-    /// Whether it is to be told now that so many have their receipts.
+    /// Whether to print now that `has` commands have their receipts.
     fn is_counted(&self, now: u64, has: usize) -> bool
         ensures { result ≡ is_counted now has self.now }
     {
         has != self.told && now.saturating_sub(self.at) >= EACH
     }
 
-    /// How many commands have their receipts, so many being left, where that is to be told now.
+    /// How many commands have their receipts if `left` are left; `None` if that is not to be printed now.
     pub fn count(&mut self, now: u64, left: usize) -> Option<usize>
         ensures count { result ≡ count_told now left self.old }
         ensures progress { self.new ≡ after_count now left self.old }
@@ -74,7 +75,7 @@ impl Progress {
         Some(has)
     }
 
-    /// Whether the ledger is to be saved now that so many have their receipts: the count of a run that is
+    /// Whether to save the ledger now that `has` commands have their receipts. The count of a run that is
     /// killed is then close, and the work stays in proportion to the ledger's size.
     pub fn keeps(&mut self, has: usize) -> bool
         ensures keeps { result ≡ is_kept has self.old }
@@ -87,7 +88,7 @@ impl Progress {
         true
     }
 
-    /// Whether it is to be told now, after an exchange, that no receipt comes.
+    /// Whether to print now, after an exchange, that no receipt comes.
     pub fn falls_silent(&mut self, now: u64, came: Came) -> bool
         ensures silent { result ≡ falls_silent came now self.old }
         ensures progress { self.new ≡ after_exchange came now self.old }

@@ -14,7 +14,7 @@ pub struct Witness {
     pub last: Told,
     /// Of the next one, which nobody has.
     pub next: Told,
-    /// Its newest release, where it says so; 0 for none.
+    /// Its newest release, if it says one; 0 for none.
     pub newest: Option<u64>,
 }
 
@@ -23,7 +23,7 @@ pub struct Witness {
 pub enum Standing {
     /// It is the newest of its editor, as far as nodes know.
     Newest,
-    /// The group has given its next ticket: there is a newer one.
+    /// The group knows a command of its next ticket: there is a newer ledger.
     Older,
     /// No node knows its last ticket, though one shows as many releases: it is of another group.
     Elsewhere,
@@ -34,8 +34,8 @@ pub enum Standing {
     Unanswered,
 }
 
-/// The ticket whose receipt has to stand; 0 where none was given. With something on its way it is that of the
-/// last release.
+/// The ticket whose receipt the group has to know; 0 if none was given. If something is on its way it is the
+/// ticket of the last release.
 pub fn last_ticket(ledger: &Ledger) -> u64
     ensures { result ≡ last_ticket ledger.now }
 {
@@ -56,7 +56,7 @@ pub fn last_shown(ledger: &Ledger) -> u64
     }
 }
 
-/// Whether a node shows an older release than that.
+/// Whether a node shows an older release than `shown`.
 fn is_behind(newest: Option<u64>, shown: u64) -> bool
     ensures { result ≡ is_behind shown newest }
 {
@@ -117,8 +117,8 @@ fn some_answers(witnesses: &[Witness]) -> bool
     witnesses.iter().any(|witness| answers(*witness))
 }
 
-/// How a ledger with this last ticket, of a folder whose last release that is, stands to a group of which
-/// some nodes were asked.
+/// How a ledger stands to a group of which some nodes were asked. `last` is its last ticket, and `shown` the
+/// last release of its folder.
 pub fn standing_of(last: u64, shown: u64, witnesses: &[Witness]) -> Standing
     ensures { result ≡ standing_of last shown witnesses.now }
 {

@@ -34,7 +34,7 @@ fn kept_texts(alloc: Global, ledger: &Ledger) -> Result<Vec<String>, AllocError>
     Ok(texts)
 }
 
-/// These, and then those that are on their way.
+/// The texts that have their receipts, and then those that are on their way.
 fn texts_with_sent(alloc: Global, ledger: &Ledger) -> Result<Vec<String>, AllocError>
     ensures { IfOk result (λ v. map string_bytes v.items ≡ with_sent ledger.now) }
 {

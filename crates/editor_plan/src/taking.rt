@@ -1,8 +1,8 @@
-//! What a publication may take over from others: a path of theirs, or names that no node tells.
+//! What a publication may take over from others: a path of theirs, or names that no node reports.
 ghost use Rattle.std.specs.Prelude.{◌≡◌};
 ghost use Rattle.editor_plan.specs.Takings.{is_of_page, is_taken, joins, takes_over};
 
-/// Whether a node gives this status for a page. Any other is given by what stands before the node.
+/// Whether a node gives this status for a page. Any other comes from a proxy before the node.
 pub fn is_of_page(status: u16) -> bool
     ensures { result ≡ is_of_page status }
 {
@@ -15,9 +15,9 @@ fn takes_over(status: u16, own: bool) -> bool
     status != 404 && !own
 }
 
-/// Whether a publication takes over a path for which its folder has no receipt: the group answers it with
-/// this status, and the answer is one that the folder's own texts give, or not. A status that no node gives
-/// for a page decides nothing.
+/// Whether a publication takes over a path for which its folder has no receipt. The group answers the path
+/// with `status`, and `own` says whether the folder's own texts give that answer. `None` if no node gives
+/// such a status for a page.
 pub fn is_taken(status: u16, own: bool) -> Option<bool>
     ensures { result ≡ is_taken status own }
 {
@@ -28,8 +28,9 @@ pub fn is_taken(status: u16, own: bool) -> Option<bool>
     }
 }
 
-/// Whether a publication of a folder that has so many receipts joins what others have published in a group
-/// with this newest release: no node tells which names of templates, partials and data they use.
+/// Whether a publication joins what others have published: its folder has `receipts` receipts, and the
+/// group's newest release is `newest`. No node reports which names of templates, partials and data the others
+/// use.
 pub fn joins(receipts: usize, newest: u64) -> bool
     ensures { result ≡ joins receipts newest }
 {

@@ -6,7 +6,7 @@ ghost use Rattle.editor_plan.specs.Standings.{told_by, is_given, is_unknown};
 pub enum Told {
     /// Its command is known.
     Given,
-    /// None is, as far as this node knows.
+    /// No command is known, as far as this node knows.
     Unknown,
     /// Nothing that can be used.
     Nothing,
