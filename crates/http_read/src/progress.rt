@@ -1,6 +1,6 @@
 //! How far a request is read.
 //!
-//! What a request may still take has a bound that falls, by which reading ends.
+//! How much of the input a request may still take has a bound. Each step lowers it, so reading ends.
 
 ghost use Rattle.std.specs.Prelude.{◌≡◌, ◌≢◌, ℕ, List, ◌++◌, Some, IfOk, OnErr, IfSome, IfNone};
 ghost use Rattle.http_read.specs.Incoming.{Shows};
@@ -16,7 +16,7 @@ use httparse::spans::HeaderSpan;
 use std::alloc::{AllocError, Global};
 use std::mem;
 
-/// How far the request is read whose first bytes are used already, and are held no more.
+/// How far a request is read. Its bytes that are used already are no longer held.
 #[derive(Drop)]
 pub enum Progress {
     /// None is used: its head isn't whole.
@@ -79,7 +79,7 @@ fn take_begun(
     }
 }
 
-/// Reads on in what the inbox holds. `None`: more bytes are wanted, and an inbox has room for them.
+/// Reads on in what the inbox holds. `None`: more bytes are needed, and an inbox has room for them.
 ///
 /// After a request the progress is that of the next one. After a refusal the connection is to be closed. The
 /// spans are room for where field lines lie, of any length at first: they grow if a head or a trailer section

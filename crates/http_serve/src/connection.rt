@@ -1,7 +1,7 @@
 //! A client's connection, without what carries its bytes.
 //!
-//! If an allocation failed, the connection is over, and an earlier response is whole. A status of 400 closes
-//! it, whoever shows it.
+//! If an allocation failed, the connection is over, and an earlier response is whole. A response of status
+//! 400 closes the connection, even if it is a page's.
 
 ghost use Rattle.std.specs.Prelude.{◌≡◌, ◌⊎◌, ◌<◌, ℕ, List, length, true, false, IfOk, OnErr, IsTrue};
 ghost use Rattle.std.specs.Prelude.{IsFalse, ◌↔◌, MatchOption};

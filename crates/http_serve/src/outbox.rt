@@ -125,7 +125,7 @@ impl Outbox {
         }
     }
 
-    /// Passes over the first bytes, which were written.
+    /// Drops the first bytes, which were written.
     pub(crate) fn pass(&mut self, n: usize)
         requires { n ≤ length self.old }
         ensures { self.new ≡ drop n self.old }
