@@ -1,4 +1,5 @@
-//! Publications into a group in memory. Each is interrupted after some answers, and another folder goes on.
+//! Publications into a group in memory. They are interrupted after each answer in turn, and another folder
+//! goes on.
 use crate::comparing::{ensure, same};
 use crate::editors::ledgers::{new_file, read, read_lines, save};
 use crate::editors::tickets::{Texts, has, insert, keep};

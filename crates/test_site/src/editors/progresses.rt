@@ -34,7 +34,7 @@ fn progresses(rt: HostRuntime) {
 }
 
 /// How many of forty commands have their receipts, one after the other, and whether the ledger is saved then:
-/// after more than two more, which is a sixteenth.
+/// after more than two new receipts, as two are a sixteenth.
 const KEPT: &[(usize, bool)] = &[
     (0, false),
     (2, false),

@@ -15,7 +15,7 @@ struct Row {
     plans: &'static [(&'static str, u64)],
     /// The folder's texts in each state.
     states: &'static str,
-    /// The folder's texts in each state.
+    /// The folder as it is published next, and what that touches.
     wanted: &'static str,
     touched: &'static str,
     /// How many commands are in the log, and on their way.
