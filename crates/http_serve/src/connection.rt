@@ -149,8 +149,8 @@ impl Connection {
     ///
     /// At most a hundred of a connection's requests are answered. The last response says so (`Connection:
     /// close`), and so does the response to a request that is refused, or whose client wants no further one.
-    /// If an allocation failed, the connection is closed too. The spans are room for where field lines lie
-    /// (`advance`), for all connections the same.
+    /// If an allocation failed, the connection is closed too. The spans are room for where field lines are
+    /// (`advance`). All connections use the same spans.
     pub fn advance<S: Service>(
         &mut self,
         alloc: Global,

@@ -72,7 +72,7 @@ fn ends<T: PartialEq + Debug + Copy>(
     ensure(rt, is_result(run, outcome), of);
 }
 
-/// Checks the result of what this reader gives, and what is written.
+/// Checks the result, and what is written, if this reader gives the input.
 pub(crate) fn reads(
     rt: &impl Abort,
     desk: &mut Desk<'_>,

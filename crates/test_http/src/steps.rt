@@ -122,7 +122,7 @@ impl Client<'_> {
         Ok(())
     }
 
-    /// Passes until the connection is over, or 20,000.
+    /// Makes passes until the connection is over, 20,000 at most.
     fn passes(&mut self, desk: &mut Desk<'_>) -> Result<(), AllocError> {
         for _ in 0..20_000 {
             if self.connection.is_done() {
