@@ -19,7 +19,7 @@ pub record IsAnswer (bytes : List ℕ) (status : ℕ) (body : List ℕ) : Type 0
   pub stated : head_of (values_of (codes "content-length") (map name_and_value head.fields))
       ≡ Some (decimal (length body))
 
--- such an answer is read where it has few enough field lines and bytes
+-- such an answer is read if it has few enough field lines and bytes
 pub record IsReadable (bytes : List ℕ) (status : ℕ) (body : List ℕ) : Type 0 where
   pub is : IsAnswer bytes status body
   pub few : length is.head.fields ≤ FIELDS
@@ -35,7 +35,7 @@ HasNone input =
 abbrev pub IsOf : List ℕ → NodeAnswer → Type 0
 IsOf bytes answer = IsAnswer bytes answer.status answer.body.items
 
--- what is said of the bytes that are held: an answer is as many of them; none is there yet; none will be,
+-- what a look at the held bytes shows: an answer of this many bytes; or none is there yet; or none will be,
 -- whatever follows
 abbrev pub Sees : List ℕ → Look → Type 0
 Sees held (Whole answer n) = (n ≤ length held) × IsOf (take n held) answer

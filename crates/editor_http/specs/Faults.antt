@@ -1,4 +1,4 @@
--- What a fault of reading is to an answer.
+-- How a fault of reading is reported for an answer.
 use Rattle.engine_common.specs.declared.ends.InputFault.{InputFault}
 use Rattle.engine_common.specs.declared.ends.InputFault.TheVariants as input
 use Rattle.editor_http.specs.declared.fault.NodeAnswerFault.{NodeAnswerFault}

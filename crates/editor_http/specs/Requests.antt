@@ -13,7 +13,7 @@ use Rattle.http_read.specs.declared.escaping.TheConstants.{ESCAPED}
 use Rattle.editor_http.specs.declared.question.Question.{Question}
 use Rattle.editor_http.specs.declared.question.Question.TheVariants.{Submit, Receipt, Newest, Page}
 
--- the field line that ends a connection, after its last request alone
+-- the field line that ends a connection: only the last request has it
 abbrev pub closing : Bool → List ℕ
 closing last = if last then codes "Connection: close\r\n" else []
 

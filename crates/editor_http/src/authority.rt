@@ -7,14 +7,14 @@ ghost use Rattle.editor_http.specs.Authorities.{login_of, login_before, host_in,
 use percent_encoding::percent_decode;
 use std::alloc::{AllocError, Global};
 
-/// A user and a password. There is no `Debug` and no `Display` of it: so none is told by chance.
+/// A user and a password. The type has no `Debug` and no `Display`, so that neither is printed by accident.
 #[derive(Drop)]
 pub struct Login {
     pub user: Vec<u8>,
     pub password: Vec<u8>,
 }
 
-/// A host with its port, and who asks there, where that is to be said.
+/// A host with its port, and the login to send there, if any.
 #[derive(Drop)]
 pub struct Authority {
     pub login: Option<Login>,
@@ -39,7 +39,7 @@ fn login_by(alloc: Global, user: &str, password: &str) -> Result<Login, AllocErr
     })
 }
 
-/// A user, and a password after the first colon, which is empty where there is none.
+/// A user, and a password after the first colon. Without a colon the password is empty.
 fn login_in(alloc: Global, text: &str) -> Result<Login, AllocError>
     ensures { IfOk result (λ login. login_shown login ≡ login_of text.now) }
 {

@@ -18,7 +18,7 @@ fn credentials(alloc: Global, login: &Login) -> Result<String, AllocError>
     STANDARD.encode(alloc, bytes.as_slice())
 }
 
-/// The field line of a login; none where there is none.
+/// The field line of a login. Empty if there is none.
 pub(crate) fn authorization(alloc: Global, login: &Option<Login>) -> Result<String, AllocError>
     ensures { IfOk result (λ line. string_bytes line ≡ authorization_of (option_map login_shown login.now)) }
 {

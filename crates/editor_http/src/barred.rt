@@ -1,4 +1,4 @@
-//! That a client is kept out.
+//! Why a client is kept out.
 ghost use Rattle.std.specs.Prelude.{◌≡◌};
 ghost use Rattle.editor_http.specs.Bars.{barred_by};
 
@@ -16,7 +16,7 @@ pub enum Barred {
     Forbidden,
 }
 
-/// Why a client that had a login, or none, is kept out by an answer of this status; nothing where it is not.
+/// Why an answer of this status keeps out a client that had a login, or none. `None` if it does not.
 pub fn barred_by(status: u16, with_login: bool) -> Option<Barred>
     ensures { result ≡ barred_by status with_login }
 {

@@ -10,8 +10,8 @@ pub enum NodeAnswerFault {
     /// The connection ended before a whole answer.
     #[error("the connection ended")]
     Ended,
-    /// What came is no answer of a node: no response, one of more than 32 field lines, or one without a
-    /// length or with too large a one.
+    /// What came is not an answer of a node: not a response, one of more than 32 field lines, or one without
+    /// a length or with one that is too large.
     #[error("what came is no answer of a node")]
     NoAnswer,
     #[error("out of memory")]

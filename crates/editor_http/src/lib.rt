@@ -1,11 +1,12 @@
 //! What a client asks of a node, and what it reads of the answers (HTTP/1.1, RFC 9112).
 //!
-//! `question.rt` has what can be asked, as the bytes of a request, `authority.rt` who asks and where,
-//! `authorization.rt` the line that says so (RFC 7617). `reading.rt` reads the next answer of a connection,
-//! `looking.rt` finds one at the front of what was read, `fields.rt` its length; `barred.rt` says whether it
-//! keeps the client out. Questions may be sent ahead: answers come in their order. Nothing here opens a
-//! connection: so it stands apart from `editor_group`, is tested without sockets, and proved beside
-//! `editor_plan`.
+//! `question.rt` has the requests to a node as bytes, `authority.rt` who asks and where, `authorization.rt`
+//! the line that says so (RFC 7617). `reading.rt` reads the next answer of a connection, `looking.rt` finds
+//! one at the front of what was read, and `fields.rt` reads its length. `barred.rt` says whether an answer
+//! keeps the client out. Requests may be sent ahead: their answers come in order.
+//!
+//! Nothing here opens a connection. So the crate is separate from `editor_group`: it is tested without
+//! sockets, and proved beside `editor_plan`.
 #![tactic(auto)]
 
 mod authority;

@@ -8,7 +8,7 @@ use httparse::Status;
 use httparse::spans::{EMPTY_HEADER_SPAN, parse_response};
 use std::alloc::{AllocError, Global};
 
-/// The most field lines of an answer. A node gives five at most, a proxy before it some more.
+/// The most field lines of an answer. A node sends at most five, a proxy before it some more.
 pub(crate) const FIELDS: usize = 32;
 
 /// The most bytes of a body. A node's page costs 1,000,000 at most.
@@ -19,9 +19,9 @@ pub(crate) const MAX_BODY: u64 = 2_000_000;
 pub(crate) enum Look {
     /// A whole answer, and how many bytes it is.
     Whole(NodeAnswer, usize),
-    /// More bytes are wanted.
+    /// More bytes are needed.
     Open,
-    /// No answer of a node.
+    /// This is not an answer of a node.
     Never,
 }
 

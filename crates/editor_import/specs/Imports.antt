@@ -10,11 +10,11 @@ use Rattle.editor_import.specs.declared.left_out.LeftOut.{LeftOut}
 use Rattle.editor_import.specs.declared.left_out.NotTaken.{NotTaken}
 use Rattle.editor_import.specs.declared.left_out.NotTaken.TheVariants.{Other, NoText, NoCommand}
 
--- a page's name ends so
+-- the name of a page's file ends so
 abbrev pub is_html : List ℕ → Bool
 is_html path = ends_with nat_eq path (codes ".html")
 
--- a file is left out that is no page, and a page whose text or commands are none
+-- a file is left out if it is not a page, or if its text or its commands are invalid
 abbrev pub WhyLeft : NotTaken → SiteFile → Type 0
 WhyLeft Other file = is_html (string_bytes file.path) ≡ false
 WhyLeft NoText file = IsLeftOut NoText file
@@ -46,6 +46,6 @@ SortsAnother before after file =
     (files : List SiteFile) → Sorts files before.candidates.items before.left_out.items
     → Sorts (files ++ file ∷ []) after.candidates.items after.left_out.items
 
--- what is told as left out is just what is not taken
+-- the files that are reported as left out are exactly those that are not taken
 abbrev pub IsImportOf : Imported → List SiteFile → Type 0
 IsImportOf made files = (taken : List Candidate) × Sorts files taken made.left_out.items

@@ -6,7 +6,7 @@ use Rattle.url.specs.Host.{host_text}
 use Rattle.url.specs.Parser.{parse_url}
 use Rattle.url.specs.Parts.{Parts, nonempty_host}
 
--- nothing is asked of the page, and no place in it is named
+-- the URL has no query and no fragment
 abbrev pub IsWhole : Parts → Type 0
 IsWhole url = (url.query ≡ None) × (url.fragment ≡ None)
 
@@ -15,7 +15,7 @@ HasHostOf own url =
     (option_map host_text (nonempty_host own) ≡ option_map host_text (nonempty_host url))
     × (own.port ≡ url.port)
 
--- the URL is of the same host and names a page as a whole, whose path is this once decoded
+-- the URL is of the same host and names a whole page, whose path is this once decoded
 pub record IsAt (own url : Parts) (path : List ℕ) : Type 0 where
   pub at_home : HasHostOf own url
   pub whole : IsWhole url

@@ -23,7 +23,7 @@ pub record IsPut (p : ImportedPage) : Type 0 where
   pub template : IsCommandText (template_text p)
   pub route : IsCommandText (route_text p)
 
--- the text is no command, by this fault
+-- the text is not a command, and this is its fault
 abbrev pub FaultOf : List ℕ → CommandFault → Type 0
 FaultOf text fault = value_reading (value_of nobodys text) ≡ Err fault
 
@@ -36,12 +36,12 @@ pub record IsDraft (p : ImportedPage) (file text : List ℕ) : Type 0 where
   pub template_is : string_bytes p.template ≡ verbatim text
   pub shows : Shows (string_bytes p.template) text
 
--- and its commands are such
+-- and its commands are valid
 pub record IsPageOf (p : ImportedPage) (file : SiteFile) : Type 0 where
   pub draft : IsDraft p (string_bytes file.path) file.bytes.items
   pub put : IsPut p
 
--- A file has no page: it is no text, or one of the commands of its page is none.
+-- A file has no page: it is not text, or one of the commands of its page is invalid.
 abbrev pub IsLeftOut : NotTaken → SiteFile → Type 0
 IsLeftOut Other file = ⊥
 IsLeftOut NoText file = ¬ (IsUtf8 file.bytes.items)

@@ -2,7 +2,7 @@
 use Rattle.std.specs.Prelude.{◌≡◌, ℕ, List, Option, None, Some, codes}
 use Rattle.mustache_scan.specs.Cutting.{cut}
 
--- what stands before a cut, and what after it
+-- what comes before a cut
 abbrev pub cut_front : Option (List ℕ × List ℕ) → Option (List ℕ)
 cut_front None = None
 cut_front (Some (before, after)) = Some before
@@ -11,7 +11,7 @@ abbrev pub up_to : List ℕ → Option (List ℕ × List ℕ) → Option (List �
 up_to mark None = None
 up_to mark (Some (before, after)) = cut_front (cut mark after)
 
--- what stands after the first place of an opening, up to the next mark
+-- what comes after the first place of an opening, up to the next mark
 abbrev pub address_behind : List ℕ → List ℕ → List ℕ → Option (List ℕ)
 address_behind opening mark page = up_to mark (cut opening page)
 
@@ -31,7 +31,7 @@ canonical page =
     or_else (address_behind (codes "<link rel=\"canonical\" href=\"") (codes "\"") page)
     (address_behind (codes "<link rel=canonical href=") (codes ">") page)
 
--- the page has neither a comment nor a part for browsers without scripts: the addresses may stand there
+-- the page has neither a comment nor a part for browsers without scripts: the addresses may be there
 pub record IsPlain (page : List ℕ) : Type 0 where
   pub uncommented : cut (codes "<!--") page ≡ None
   pub for_all : cut (codes "<noscript") page ≡ None

@@ -12,13 +12,14 @@ use std::alloc::{AllocError, Global};
 use std::collections::BTreeSet;
 use url::{ParseError, Url};
 
-/// The file in which a generator tells the addresses of its pages.
+/// The file in which a generator lists the addresses of its pages.
 const SITEMAP: &str = "sitemap.xml";
 
-/// Where a site is that has no such file: only addresses without a host are of it.
+/// The site's address if there is no such file: then only addresses without a host are of this site.
 const NOWHERE: &str = "http://site.invalid/";
 
-/// The page that is shown at a path that is none, by its path, and where a server in front asks for it.
+/// The page that is shown at paths without a page: its path, and the path at which a server in front asks for
+/// it.
 const MISSING: (&str, &str) = ("/404.html", "/404");
 
 /// A file of the folder.
@@ -35,7 +36,7 @@ pub struct LedOn {
     pub target: String,
 }
 
-/// What came of a generator's files: those of the folder, how many pages and redirects it has, which pages
+/// The result for a generator's files: those of the folder, how many pages and redirects it has, which pages
 /// became redirects, and what was left out.
 #[derive(Drop)]
 pub struct Imported {
@@ -54,7 +55,7 @@ struct Candidate {
     leads: Option<String>,
 }
 
-/// The files of a generator while they are gone through.
+/// The files of a generator while they are sorted.
 #[derive(Drop)]
 struct Gathering {
     alloc: Global,
@@ -63,7 +64,7 @@ struct Gathering {
     left_out: Vec<LeftOut>,
 }
 
-/// The first address that a sitemap tells.
+/// The first address in a sitemap.
 fn first_address(sitemap: &[u8]) -> Option<&str> {
     let text = str::from_utf8(sitemap).ok()?;
     let (_, behind) = text.split_once("<loc>")?;
@@ -71,7 +72,7 @@ fn first_address(sitemap: &[u8]) -> Option<&str> {
     Some(address.trim())
 }
 
-/// The address of a page of the site, as its files tell it.
+/// The address of a page of the site, as its files state it.
 fn address_in(files: &[SiteFile]) -> &str {
     match files.iter().find(|file| file.path.as_str() == SITEMAP) {
         Some(file) => first_address(&file.bytes).unwrap_or(NOWHERE),
@@ -133,7 +134,7 @@ impl Gathering {
     }
 }
 
-/// All files, each as one or the other.
+/// Sorts all files.
 fn gathered(alloc: Global, site: Url, files: &[SiteFile]) -> Result<Gathering, AllocError>
     ensures { IfOk result (λ g. Sorts files.now g.candidates.items g.left_out.items) }
 {
@@ -173,7 +174,7 @@ struct Writing {
 }
 
 impl Writing {
-    /// Adds a line of `redirects`, where that is a command.
+    /// Adds a line to `redirects`, if it is a valid command. Returns whether it is.
     fn lead_on(&mut self, path: &str, target: &str) -> Result<bool, AllocError> {
         let command = format!(in self.alloc; "put redirect {path} {target}\n")?;
         if refused(self.alloc, command.as_bytes())?.is_some() {
@@ -192,7 +193,7 @@ impl Writing {
         Ok(())
     }
 
-    /// Adds a page: its route, its template, and that of an `index.html` under its own name too.
+    /// Adds a page: its route and its template. An `index.html` also gets a redirect from its own name.
     fn page(&mut self, file: &str, page: ImportedPage) -> Result<(), AllocError> {
         let ImportedPage {
             path,
@@ -216,7 +217,7 @@ impl Writing {
         Ok(())
     }
 
-    /// Adds a candidate: as a redirect where it leads to one of these paths, else as a page.
+    /// Adds a candidate: as a redirect if it leads to one of these paths, otherwise as a page.
     fn add(&mut self, paths: &BTreeSet<String>, candidate: Candidate) -> Result<(), AllocError> {
         let Candidate { file, page, leads } = candidate;
         if let Some(target) = leads {
@@ -274,7 +275,7 @@ impl Writing {
     }
 }
 
-/// What was gathered, as a folder.
+/// The folder of what was gathered.
 fn folder_of(gathered: Gathering) -> Result<Imported, AllocError>
     ensures { IfOk result (λ made. made.left_out ≡ gathered.left_out) }
 {
@@ -297,7 +298,7 @@ fn folder_of(gathered: Gathering) -> Result<Imported, AllocError>
     writing.finish(left_out)
 }
 
-/// The address of a site, as its files tell it, or the one that stands for none.
+/// The address of a site, as its files state it, or `NOWHERE`.
 fn site_of(alloc: Global, files: &[SiteFile]) -> Result<Url, AllocError> {
     if let Some(site) = url_of(alloc, address_in(files))? {
         return Ok(site);
@@ -309,7 +310,8 @@ fn site_of(alloc: Global, files: &[SiteFile]) -> Result<Url, AllocError> {
 }
 
 /// The folder of a site that shows the pages of a generator's files, each at the path at which that generator
-/// links it. A page that leads on to another one at once is a redirect; so is the name of an `index.html`.
+/// links it. A page that leads on to another one at once becomes a redirect. The name of an `index.html`
+/// becomes a redirect too.
 pub fn import_of(alloc: Global, files: &[SiteFile]) -> Result<Imported, AllocError>
     ensures { IfOk result (λ made. IsImportOf made files.now) }
 {

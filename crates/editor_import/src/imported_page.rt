@@ -14,7 +14,7 @@ use editor_folder::{SiteFile, refused};
 use sha2::{Digest, Sha256};
 use std::alloc::{AllocError, Global};
 
-/// The data of each page, which has nothing that asks for some.
+/// The data of each page. No page uses any of it.
 pub(crate) const DATA: &str = "none";
 
 /// A page: its path, and its template with a name.
@@ -25,12 +25,12 @@ pub struct ImportedPage {
     pub template: String,
 }
 
-/// A name that any path gives: its digest.
+/// A valid name for any path: its digest.
 fn digest_name(alloc: Global, file: &str) -> Result<String, AllocError> {
     hex::encode(alloc, Sha256::digest(file.as_bytes()))
 }
 
-/// The name of a file's template: the file's, where that can be one.
+/// The name of a file's template: the file's own, if that is valid, otherwise a digest.
 fn name_of(alloc: Global, file: &str) -> Result<String, AllocError> {
     let name = file.strip_suffix(".html").unwrap_or(file);
     let removal = format!(in alloc; "remove template {name}\n")?;
@@ -66,7 +66,7 @@ fn route_fault(alloc: Global, page: &ImportedPage) -> Result<Option<CommandFault
     }
 }
 
-/// Why one of the two commands of a page is none.
+/// Why one of the two commands of a page is invalid.
 fn page_fault(alloc: Global, page: &ImportedPage) -> Result<Option<CommandFault>, AllocError>
     ensures { IfOk result (λ o. MatchOption o (IsPut page.now) (WhyNot page.now)) }
 {
@@ -76,7 +76,7 @@ fn page_fault(alloc: Global, page: &ImportedPage) -> Result<Option<CommandFault>
     }
 }
 
-/// The page of a text, before it is judged.
+/// The page of a text, before it is checked.
 fn draft_of(alloc: Global, file: &str, text: &str) -> Result<ImportedPage, AllocError>
     ensures route { IfOk result (λ p. IsRoute (string_bytes p.path) file.now) }
     ensures template { IfOk result (λ p. string_bytes p.template ≡ verbatim text.now) }
@@ -89,7 +89,7 @@ fn draft_of(alloc: Global, file: &str, text: &str) -> Result<ImportedPage, Alloc
     })
 }
 
-/// The page of a file, or why it is none.
+/// The page of a file, or why it has none.
 pub fn page_of(alloc: Global, file: &SiteFile) -> Result<Result<ImportedPage, NotTaken>, AllocError>
     ensures { IfOk result (λ r. MatchResult r (λ p. IsPageOf p file.now) (λ why. IsLeftOut why file.now)) }
 {

@@ -95,8 +95,8 @@ fn tell_no_page<E: Write>(
     Ok(say_made(err, line)?)
 }
 
-/// Writes a folder of the pages that a generator wrote, tells what it leaves out of them, and gives the exit
-/// status.
+/// Writes a folder of the pages that a generator wrote, reports what it leaves out of them, and returns the
+/// exit status.
 pub fn import<R: Files + AllocGlobal + Clone + Drop, W: Write, E: Write>(
     rt: &R,
     out: &mut W,

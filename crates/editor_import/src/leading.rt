@@ -11,8 +11,8 @@ use percent_encoding::{percent_decode, utf8_percent_encode};
 use std::alloc::{AllocError, Global};
 use url::{ParseError, Url};
 
-/// The URL that an address gives from another one, if it is one. One of 4 GB is as one for which memory
-/// lacks.
+/// The URL that an address means at another URL, if it means one. A URL of 4 GB is reported as a failed
+/// allocation.
 fn joined(from: &Url, address: &str) -> Result<Option<Url>, AllocError>
     ensures { IfOk result (λ o. MatchOption o
         ((url : Parts) → ¬ (parse_url (Some from.now) address.now ≡ Ok url))
@@ -25,7 +25,7 @@ fn joined(from: &Url, address: &str) -> Result<Option<Url>, AllocError>
     }
 }
 
-/// Whether a URL names a page as a whole: nothing is asked of it, and no place in it is named.
+/// Whether a URL names a whole page: it has no query and no fragment.
 fn is_whole(url: &Url) -> bool
     ensures { IsTrue result ↔ IsWhole url.now }
 {
@@ -52,14 +52,14 @@ fn decoded(alloc: Global, text: &str) -> Result<Option<String>, AllocError>
     }
 }
 
-/// Whether a URL names a page as a whole, of the same host.
+/// Whether a URL names a whole page of the same host.
 fn is_page_at(own: &Url, url: &Url) -> bool
     ensures { IsTrue result ↔ (HasHostOf own.now url.now × IsWhole url.now) }
 {
     has_host_of(own, url) && is_whole(url)
 }
 
-/// The path of a URL that is of the same host, and a page as a whole.
+/// The path of a URL, if the URL is of the same host and names a whole page.
 #[tactic(auto, using(crate::proofs::LeadingLemmas::none_at, crate::proofs::LeadingLemmas::is_decoded))]
 fn path_at(alloc: Global, own: &Url, url: &Url) -> Result<Option<String>, AllocError>
     ensures { IfOk result (λ o. MatchOption o

@@ -4,14 +4,14 @@ use command::CommandFault;
 use site_ids::{MAX_PATH, MAX_VALUE, TICKET_BYTES};
 use std::fmt;
 
-/// Why a file is no page of a site.
+/// Why a file is not a page of a site.
 #[derive(Clone, Copy, Debug, Drop, PartialEq, Eq)]
 pub enum NotTaken {
-    /// It is none of a generator's pages: a picture, a style, a script.
+    /// It is not one of a generator's pages: a picture, a style, a script.
     Other,
-    /// Its bytes are no text.
+    /// Its bytes are not text.
     NoText,
-    /// The commands that would put it are none.
+    /// The commands that would put it are invalid.
     NoCommand(CommandFault),
 }
 
@@ -47,7 +47,7 @@ impl NotTaken {
     }
 }
 
-/// A file that is no page of the folder, and why.
+/// A file that is not a page of the folder, and why.
 #[derive(Drop)]
 pub struct LeftOut {
     pub file: String,

@@ -1,9 +1,10 @@
 //! What another generator wrote, as the folder of a site.
 //!
-//! `template.rt` makes the template that shows a page as it is, `route.rt` says at which path a file's page
-//! stands, `refresh.rt` where a page leads on to, and `leading.rt` which path of the same site that is.
-//! `imported_page.rt` judges a file, `imported.rt` all of them: the files of the folder, and what is left
-//! out. `importing.rt` reads and writes them: what real files give and take is tested, not proved.
+//! `template.rt` makes the template that shows a page as it is. `route.rt` gives the path of a file's page,
+//! `refresh.rt` the address to which a page leads on, and `leading.rt` the path of the same site that this
+//! address means. `imported_page.rt` checks one file, `imported.rt` all of them: the files of the folder, and
+//! what is left out. `importing.rt` reads and writes them: what real files give and take is tested, not
+//! proved.
 #![tactic(auto)]
 
 mod imported;

@@ -3,19 +3,19 @@ ghost use Rattle.std.specs.Prelude.{◌≡◌, ◌↔◌, ◌<◌, ℕ, List, le
 ghost use Rattle.mustache_scan.specs.Cutting.{cut};
 ghost use Rattle.editor_import.specs.Refreshes.{address_behind, refresh, canonical, IsPlain, LeadsOn};
 
-/// What stands before the address in a page that goes elsewhere at once, as generators write it.
+/// What comes before the address in a page that goes elsewhere at once, as generators write it.
 const REFRESH: &str = "<meta http-equiv=\"refresh\" content=\"0; url=";
 
-/// The same in a page without the marks that HTML can do without.
+/// The same in a page without the quotation marks that HTML can do without.
 const SHORT_REFRESH: &str = "<meta http-equiv=refresh content=\"0; url=";
 
-/// What stands before a page's canonical address, as generators write it.
+/// What comes before a page's canonical address, as generators write it.
 const CANONICAL: &str = "<link rel=\"canonical\" href=\"";
 
-/// The same in a page without the marks that HTML can do without.
+/// The same in a page without the quotation marks that HTML can do without.
 const SHORT_CANONICAL: &str = "<link rel=canonical href=";
 
-/// A text cut round the first place of a part.
+/// A text cut around the first place of a part.
 fn cut<'a>(text: &'a str, part: &str) -> Option<(&'a str, &'a str)>
     requires { 0 < length part.now }
     ensures { option_map (λ x. (x.0.now, x.1.now)) result ≡ cut part.now text.now }
@@ -23,7 +23,7 @@ fn cut<'a>(text: &'a str, part: &str) -> Option<(&'a str, &'a str)>
     text.split_once(part)
 }
 
-/// What stands after an opening, up to the next mark.
+/// What comes after an opening, up to the next mark.
 fn address_behind<'a>(opening: &str, mark: &str, page: &'a str) -> Option<&'a str>
     requires opening { 0 < length opening.now }
     requires mark { 0 < length mark.now }

@@ -4,8 +4,8 @@ ghost use Rattle.editor_import.specs.Routes.{IsRoute};
 
 use std::alloc::{AllocError, Global};
 
-/// The path at which generators link the page of a file below their output's folder: of an `index.html` that
-/// of its folder, with a slash at its end.
+/// The path at which generators link the page of a file below their output's folder. An `index.html` has the
+/// path of its folder, with a slash at its end.
 pub fn route_of(alloc: Global, file: &str) -> Result<String, AllocError>
     ensures { IfOk result (λ path. IsRoute (string_bytes path) file.now) }
 {

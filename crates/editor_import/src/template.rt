@@ -11,8 +11,8 @@ fn carets_in(page: &str) -> usize
     page.as_bytes().iter().filter(|b| **b == b'^').count()
 }
 
-/// The template whose page is this text, whatever data it has. Its delimiters are of one caret more than the
-/// text has, so none stands there; the tag that sets them is alone on its line, which is taken with it.
+/// The template whose page is this text, whatever data it has. Its delimiters have one caret more than the
+/// text, so none occurs there. The tag that sets them is alone on its line, and removes that line.
 #[tactic(auto, using(crate::proofs::VerbatimLemmas::page_shown))]
 pub fn template_of(alloc: Global, page: &str) -> Result<String, AllocError>
     ensures text { IfOk result (λ t. string_bytes t ≡ verbatim page.now) }

@@ -11,8 +11,8 @@ use release::{Answer, AnswerFault};
 use site_ids::{Instance, Ticket};
 use std::alloc::Global;
 
-/// A folder as it was read, and how its files looked then (`seen`). Its number is another one, and larger,
-/// after each change.
+/// A folder as it was read, and how its files looked then (`seen`). With each change its number becomes
+/// larger.
 #[derive(Drop)]
 pub struct Previewed {
     number: u64,

@@ -6,8 +6,9 @@ ghost use Rattle.editor_preview.specs.Scripts.{in_browser, is_html as is_html_pa
 use release::Answer;
 use std::alloc::{AllocError, Global};
 
-/// What stands in the script before the number of what a page shows. Twice a second it asks for the newest
-/// number; where that is another one it loads the page again, or puts in its place what is wrong with it.
+/// What comes in the script before the number of what a page shows. Twice a second the script asks for the
+/// newest number. If that is another number, it loads the page again, or shows in place of the page what is
+/// wrong with it.
 pub(crate) const BEFORE: &str = "<script>
 (function (shown) {
   function put(text) {
@@ -37,7 +38,7 @@ pub(crate) const BEFORE: &str = "<script>
   look();
 })(";
 
-/// What stands in it after that number.
+/// What comes in the script after that number.
 pub(crate) const BEHIND: &str = ");
 </script>
 ";
@@ -55,7 +56,7 @@ fn is_html(path: &str) -> bool
         || path.ends_with(b".xml"))
 }
 
-/// The page as a browser gets it, under the number of what is shown.
+/// The page as a browser receives it, under the number of what is shown.
 pub(crate) fn with_script(
     alloc: Global,
     number: u64,

@@ -8,11 +8,11 @@ use std::io::{self, Write};
 use std::net::{Net, SocketAddr, TcpListener, TcpStream};
 use std::rt::{Clock, Files};
 
-/// How many milliseconds pass before the folder is looked at again, where nobody asks for a page: so long a
-/// fault is not told.
+/// After how many milliseconds the folder is looked at again if nobody asks for a page. A fault is reported
+/// with at most this delay.
 const LOOK: u64 = 300;
 
-/// How many milliseconds it rests where nothing came and nothing went.
+/// How many milliseconds it sleeps if nothing came and nothing was sent.
 const REST: u64 = 10;
 
 fn bind<N: Net<Listener = TcpListener, Stream = TcpStream>>(
@@ -53,7 +53,7 @@ fn tell<W: Write>(
     Ok(say(out, line.as_str())?)
 }
 
-/// Answers whoever asks, each by the folder as it is then.
+/// Answers all requests, each by the folder as it is then.
 fn serve<R: Files + Net<Stream = TcpStream> + Clock + AllocGlobal + Clone + Drop, E: Write>(
     rt: &R,
     err: &mut E,
@@ -81,8 +81,9 @@ fn serve<R: Files + Net<Stream = TcpStream> + Clock + AllocGlobal + Clone + Drop
     Ok(())
 }
 
-/// Serves a folder at an address, as it is on disk at each request; where it has a fault, what is wrong in
-/// place of each page. What is wrong is told whenever it is something else. It goes on until it is ended.
+/// Serves a folder at an address, as it is on disk at each request. If the folder has a fault, each page
+/// shows what is wrong instead. What is wrong is reported whenever it changes. The preview runs until it is
+/// ended.
 pub fn preview<
     R: Files + Net<Listener = TcpListener, Stream = TcpStream> + Clock + AllocGlobal + Clone + Drop,
     W: Write,

@@ -9,7 +9,7 @@ use std::io::Write;
 use std::rt::{Clock, Files};
 use std::time::{SystemTime, UNIX_EPOCH};
 
-/// A folder, whether files that are no part of a site are passed over in it, and what was told of it last.
+/// A folder, whether files that are not part of a site are ignored in it, and the last report on it.
 #[derive(Drop)]
 pub(crate) struct Source<'a> {
     folder: &'a str,
@@ -17,7 +17,7 @@ pub(crate) struct Source<'a> {
     told: Vec<u8>,
 }
 
-/// Milliseconds since 1970, by which a preview begins to count: so its numbers grow over several runs.
+/// Milliseconds since 1970. A preview counts from this number on, so its numbers grow over several runs.
 fn first_number<C: Clock>(clock: &C) -> Result<u64, EditorFault> {
     let Ok(now) = SystemTime::now(clock) else {
         return Err(EditorFault::Clock);
@@ -33,7 +33,7 @@ fn faults_of(alloc: Global, told: &[u8]) -> Result<Shown, AllocError> {
     Ok(Shown::Faults(String::from_utf8_lossy(alloc, told)?))
 }
 
-/// How a folder's files look, or what the system says of them.
+/// How a folder's files look, or the system's message about them.
 fn looks_of<R: Files + AllocGlobal + Clone + Drop>(
     rt: &R,
     folder: &str,
@@ -47,7 +47,7 @@ fn looks_of<R: Files + AllocGlobal + Clone + Drop>(
 }
 
 impl<'a> Source<'a> {
-    /// Nothing was told yet.
+    /// Nothing was reported yet.
     pub(crate) fn new(alloc: Global, folder: &'a str, ignore: bool) -> Source<'a> {
         Source {
             folder,
@@ -56,7 +56,7 @@ impl<'a> Source<'a> {
         }
     }
 
-    /// The folder's release, or its faults; all that is wrong with it is put after `told`.
+    /// The folder's release, or its faults. All that is wrong with it is added to `told`.
     fn read<R: Files + AllocGlobal + Clone + Drop>(
         &self,
         rt: &R,
@@ -73,7 +73,7 @@ impl<'a> Source<'a> {
         }
     }
 
-    /// Writes what is wrong with the folder, where that is not what was told last.
+    /// Writes what is wrong with the folder, if that differs from the last report.
     fn tell<E: Write>(
         &mut self,
         alloc: Global,
@@ -94,7 +94,7 @@ impl<'a> Source<'a> {
         Ok(())
     }
 
-    /// Reads the folder, and tells what is wrong with it.
+    /// Reads the folder, and reports what is wrong with it.
     fn read_told<R: Files + AllocGlobal + Clone + Drop, E: Write>(
         &mut self,
         rt: &R,
@@ -106,7 +106,7 @@ impl<'a> Source<'a> {
         Ok(shown)
     }
 
-    /// The folder as it is first, where it can be looked into.
+    /// The folder as it is at first. Fails if the folder cannot be looked into.
     pub(crate) fn open<R: Files + Clock + AllocGlobal + Clone + Drop, E: Write>(
         &mut self,
         rt: &R,
@@ -117,8 +117,8 @@ impl<'a> Source<'a> {
         Ok(Previewed::new(first_number(rt)?, seen, shown))
     }
 
-    /// Shows the folder as it is now. It is looked at before it is read: what is written meanwhile looks
-    /// otherwise the next time.
+    /// Shows the folder as it is now. The folder is looked at before it is read. So what is written meanwhile
+    /// looks different the next time.
     pub(crate) fn show<R: Files + AllocGlobal + Clone + Drop, E: Write>(
         &mut self,
         rt: &R,

@@ -6,11 +6,11 @@ use httparse::spans::HeaderSpan;
 use std::alloc::{AllocError, Global};
 use std::net::TcpStream;
 
-/// So many milliseconds a connection may stand still: a browser keeps some for what it asks next.
+/// How many milliseconds a connection may be idle: a browser keeps some for its next requests.
 const STILL: u64 = 60_000;
 
-/// A browser's connection with its stream, which does not wait, and when bytes came or went last, in
-/// milliseconds since the preview began.
+/// A browser's connection with its non-blocking stream, and when bytes came or went last, in milliseconds
+/// since the preview began.
 #[derive(Drop)]
 pub(crate) struct Visitor {
     stream: Counted<TcpStream>,
@@ -19,7 +19,7 @@ pub(crate) struct Visitor {
 }
 
 impl Visitor {
-    /// A browser came.
+    /// The connection of a browser that came.
     pub(crate) fn new(alloc: Global, stream: TcpStream, now: u64) -> Visitor {
         Visitor {
             stream: Counted::new(stream),
@@ -28,7 +28,7 @@ impl Visitor {
         }
     }
 
-    /// Reads once, if it may: whether anything came.
+    /// Reads once, if it may. Returns whether anything came.
     pub(crate) fn read(&mut self, now: u64) -> Result<bool, AllocError> {
         if !self.connection.may_read() {
             return Ok(false);
@@ -42,7 +42,7 @@ impl Visitor {
         }
     }
 
-    /// Answers a request, if one is there whole.
+    /// Answers a request, if a whole one is there.
     pub(crate) fn answer(
         &mut self,
         alloc: Global,
@@ -53,7 +53,7 @@ impl Visitor {
         Ok(())
     }
 
-    /// Writes once, if something waits: whether anything went.
+    /// Writes once, if something waits. Returns whether anything was sent.
     pub(crate) fn write(&mut self, now: u64) -> bool {
         if !self.connection.owes() {
             return false;

@@ -1,4 +1,4 @@
-//! Who looks at a preview: many connections, of which none waits for another.
+//! The browsers of a preview: many connections, of which none waits for another.
 use crate::previewed::Previewed;
 use crate::visitor::Visitor;
 use httparse::spans::HeaderSpan;
@@ -27,14 +27,14 @@ impl Visitors {
         }
     }
 
-    /// Where there is no room, the connection goes that came first: a browser makes another one.
+    /// If there is no room, closes the connection that came first: its browser makes another one.
     fn make_room(&mut self) {
         if self.visitors.len() >= VISITORS {
             drop(self.visitors.remove(0));
         }
     }
 
-    /// Lets in who has come. A connection that fails at once is passed over.
+    /// Accepts the connections that have come. A connection that fails at once is ignored.
     pub(crate) fn let_in(&mut self, listener: &TcpListener, now: u64) -> Result<(), AllocError> {
         for _ in 0..VISITORS {
             let Ok((stream, _from)) = listener.accept() else {
@@ -50,7 +50,7 @@ impl Visitors {
         Ok(())
     }
 
-    /// Reads once from each: whether anything came.
+    /// Reads once from each. Returns whether anything came.
     pub(crate) fn read_each(&mut self, now: u64) -> Result<bool, AllocError> {
         let mut came = false;
         for visitor in self.visitors.iter_mut() {
@@ -59,7 +59,7 @@ impl Visitors {
         Ok(came)
     }
 
-    /// Answers one request of each, and writes once to each: whether anything went.
+    /// Answers one request of each, and writes once to each. Returns whether anything was sent.
     pub(crate) fn answer_each(
         &mut self,
         previewed: &mut Previewed,

@@ -11,9 +11,9 @@ use std::rt::Files;
 #[derive(Clone, Copy)]
 pub struct Checking<'a> {
     pub folder: &'a str,
-    /// Files that are no part of a site are ignored.
+    /// Whether files that are not part of a site are ignored.
     pub ignore: bool,
-    /// What no page comes to is told too.
+    /// Whether what no page uses is reported too.
     pub unused: bool,
 }
 
@@ -75,7 +75,7 @@ fn tell_no_page<E: Write>(alloc: Global, err: &mut E, folder: &str) -> Result<()
     )?)
 }
 
-/// What no page of a folder comes to, where that is asked of one without a fault.
+/// What no page of a folder uses, if that is asked for and the folder has no fault.
 fn unused_in(alloc: Global, how: Checking<'_>, read: &Read) -> Result<Vec<Finding>, AllocError> {
     if how.unused && !read.has_fault() {
         unused_of(alloc, &read.folder)
@@ -84,7 +84,7 @@ fn unused_in(alloc: Global, how: Checking<'_>, read: &Read) -> Result<Vec<Findin
     }
 }
 
-/// Keeps what was found.
+/// Puts what was found into the outcome.
 fn keep(
     alloc: Global,
     outcome: &mut Outcome,
@@ -103,7 +103,7 @@ fn keep(
     outcome.put(alloc, "passed_over", Value::from(read.passed_over))
 }
 
-/// Writes all that is wrong with a folder that was read, or that nothing is, and gives the exit status.
+/// Writes all that is wrong with a folder that was read, or that nothing is, and returns the exit status.
 fn tell<W: Write, E: Write>(
     alloc: Global,
     out: &mut W,
@@ -126,8 +126,8 @@ fn tell<W: Write, E: Write>(
     Ok(0)
 }
 
-/// Writes each fault of a folder, or that it has none, and gives the exit status: 1 too for a folder without
-/// a page. What was found is kept in the outcome.
+/// Writes each fault of a folder, or that it has none, and returns the exit status. The status is 1 also for
+/// a folder without a page. The outcome keeps what was found.
 pub fn check<R: Files + AllocGlobal + Clone + Drop, W: Write, E: Write>(
     rt: &R,
     out: &mut W,

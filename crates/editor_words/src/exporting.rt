@@ -24,7 +24,7 @@ fn tell_no_copy<E: Write>(
     Ok(say(err, line.as_str())?)
 }
 
-/// The file of a page; nothing where it has none, which is told.
+/// The file of a page. If it has none, that is reported.
 fn file_of<E: Write>(
     alloc: Global,
     err: &mut E,
@@ -41,8 +41,8 @@ fn file_of<E: Write>(
     }
 }
 
-/// Adds the files of pages, each below the copy's folder. Whether a page has none is the answer; each is
-/// told.
+/// Adds the files of pages, each below the copy's folder. Returns whether a page has none. Each such page is
+/// reported.
 fn add_files<E: Write>(
     alloc: Global,
     err: &mut E,
@@ -66,7 +66,8 @@ fn lone_file(alloc: Global, path: &str) -> Result<Option<String>, AllocError> {
     Ok(Copies::new(alloc).take(path)?.ok())
 }
 
-/// The lines of redirects whose file would be that of the page that they lead to, as `/a/index.html` to `/a`.
+/// The lines of redirects whose file would be that of the page that they lead to, for example `/a/index.html`
+/// to `/a`.
 fn needless(alloc: Global, redirects: &[Redirect]) -> Result<BTreeSet<usize>, AllocError> {
     let mut lines = BTreeSet::new(alloc);
     for redirect in redirects {
@@ -108,7 +109,7 @@ fn write_all<R: Files + AllocGlobal>(
     Ok(())
 }
 
-/// Writes pages into a folder, each as its file. Nothing is written where one has none.
+/// Writes pages into a folder, each as its file. If one has no file, nothing is written.
 fn write_pages<R: Files + AllocGlobal, E: Write>(
     rt: &R,
     err: &mut E,
@@ -130,7 +131,7 @@ fn tell_full<E: Write>(alloc: Global, err: &mut E, folder: &str) -> Result<(), E
     Ok(say(err, line.as_str())?)
 }
 
-/// Whether files can be written into a folder, as it is absent or empty. That it isn't is told.
+/// Whether files can be written into a folder: it has to be absent or empty. If it is not, that is reported.
 pub fn takes_files<R: Files + AllocGlobal + Clone + Drop, E: Write>(
     rt: &R,
     err: &mut E,
@@ -143,7 +144,7 @@ pub fn takes_files<R: Files + AllocGlobal + Clone + Drop, E: Write>(
     Ok(free)
 }
 
-/// Writes a static copy, and gives the exit status.
+/// Writes a static copy, and returns the exit status.
 pub fn export<R: Files + AllocGlobal + Clone + Drop, E: Write>(
     rt: &R,
     err: &mut E,
@@ -173,7 +174,7 @@ fn write_beginning<R: Files + AllocGlobal>(rt: &R, folder: &str) -> Result<(), E
     Ok(())
 }
 
-/// Writes a small site to start from, and gives the exit status.
+/// Writes a small site to start from, and returns the exit status.
 pub fn begin<R: Files + AllocGlobal + Clone + Drop, W: Write, E: Write>(
     rt: &R,
     out: &mut W,

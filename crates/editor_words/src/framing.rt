@@ -1,4 +1,4 @@
-//! The commands of a folder as `siterender` reads them, for who has no group.
+//! The commands of a folder as `siterender` reads them, for an editor without a group.
 ghost use Rattle.std.specs.Prelude.{◌≡◌, IfOk, string_bytes};
 ghost use Rattle.engine_page.specs.Framed.{frame as framed};
 
@@ -53,8 +53,8 @@ fn write_input<W: Write>(
     }
 }
 
-/// Writes the commands of a folder as `siterender` reads them, and gives the exit status. Nothing is written
-/// of a folder with a fault, which is told.
+/// Writes the commands of a folder as `siterender` reads them, and returns the exit status. If the folder has
+/// a fault, the fault is reported, and no command is written.
 pub fn frame<R: Files + AllocGlobal + Clone + Drop, W: Write, E: Write>(
     rt: &R,
     out: &mut W,

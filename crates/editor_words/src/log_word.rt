@@ -9,7 +9,7 @@ use std::collections::BTreeMap;
 use std::io::Write;
 use std::rt::Files;
 
-/// What was said of releases, by their numbers: of each what was said last.
+/// The messages of releases, by their numbers: of each release the last message.
 fn messages_of(alloc: Global, ledger: &Ledger) -> Result<BTreeMap<u64, &str>, AllocError> {
     let mut messages = BTreeMap::new(alloc);
     for message in ledger.messages() {
@@ -18,7 +18,7 @@ fn messages_of(alloc: Global, ledger: &Ledger) -> Result<BTreeMap<u64, &str>, Al
     Ok(messages)
 }
 
-/// When a release was seen first, as it is written; in seconds where that is no time.
+/// When a release was first seen, as it is written. In seconds if that is not a valid time.
 fn time_of(alloc: Global, released: &Released) -> Result<String, AllocError> {
     let seconds = i64::try_from(released.time).unwrap_or(i64::MAX);
     match Timestamp::from_second(seconds) {
@@ -27,8 +27,8 @@ fn time_of(alloc: Global, released: &Released) -> Result<String, AllocError> {
     }
 }
 
-/// Writes a release: its number, when it was seen first, and how many commands it shows that none showed
-/// before; and the lines that were said of it, each after four blanks.
+/// Writes a release: its number, when it was first seen, how many commands it shows that none showed before,
+/// and the lines of its message, each after four blanks.
 fn tell<W: Write>(
     alloc: Global,
     out: &mut W,
@@ -94,8 +94,8 @@ fn tell_none<E: Write>(alloc: Global, err: &mut E, folder: &str) -> Result<(), E
     Ok(say(err, line.as_str())?)
 }
 
-/// Writes the releases that were made of a folder, the oldest first, and gives the exit status. The releases
-/// are kept in the outcome, none where nothing was published.
+/// Writes the releases that were made of a folder, the oldest first, and returns the exit status. The outcome
+/// keeps the releases, none if nothing was published.
 pub fn tell_log<R: Files + AllocGlobal, W: Write, E: Write>(
     rt: &R,
     out: &mut W,

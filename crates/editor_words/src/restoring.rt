@@ -13,12 +13,12 @@ fn unpublished(alloc: Global, folder: &str) -> Result<EditorFault, AllocError> {
     Ok(EditorFault::Stop(format!(in alloc; "{folder}: nothing was published from here")?))
 }
 
-/// Why a file is not written that is none of a site's.
+/// Why a file is not written: it is not one of a site's files.
 fn foreign(alloc: Global, folder: &str, path: &str) -> Result<EditorFault, AllocError> {
     Ok(EditorFault::Stop(format!(in alloc; "{folder}/published: {path} is no file of a site")?))
 }
 
-/// Writes files below a folder. Nothing is written where one of them is none of a site's.
+/// Writes files below a folder. If one of them is not one of a site's files, nothing is written.
 fn write_files<R: Files + AllocGlobal>(
     rt: &R,
     folder: &str,
@@ -50,7 +50,7 @@ fn write_release<R: Files + AllocGlobal>(
     write_files(rt, folder, to, &files)
 }
 
-/// Writes a folder as it was at one of its releases, from what its file `published` keeps, and gives the
+/// Writes a folder as it was at one of its releases, from what its file `published` keeps, and returns the
 /// exit status.
 pub fn restore<R: Files + AllocGlobal + Clone + Drop, E: Write>(
     rt: &R,

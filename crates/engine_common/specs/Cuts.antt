@@ -5,7 +5,7 @@ use Rattle.std.specs.Prelude.{ℕ, ◌≡◌, ◌≢◌, List, ◌∷◌, ◌++�
 abbrev pub Lacks : ℕ → List ℕ → Type 0
 Lacks b bytes = EachIndex bytes (λ i. slice_index bytes i ≢ b)
 
--- the bytes are parted at the first that is b
+-- the bytes are split at the first b
 pub record IsCut (b : ℕ) (bytes front back : List ℕ) : Type 0 where
   pub whole : bytes ≡ front ++ b ∷ back
   pub first : Lacks b front

@@ -9,7 +9,7 @@ use Rattle.engine_common.specs.declared.words.SubmissionLine.{SubmissionLine}
 abbrev pub numbers : ℕ → Ticket → ℕ → List (List ℕ)
 numbers p ticket len = decimal p ∷ decimal ticket.editor ∷ decimal ticket.number ∷ decimal len ∷ []
 
--- words parted by one space
+-- words, with one space between them
 abbrev pub joined : List (List ℕ) → List ℕ
 joined [] = []
 joined (word ∷ []) = word

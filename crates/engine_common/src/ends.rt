@@ -1,4 +1,4 @@
-//! Whole readings.
+//! Reads whole inputs.
 ghost use Rattle.std.specs.Prelude.{◌≡◌, ℕ, List, IsErrOf, IfOk};
 ghost use Rattle.std.specs.Io.KnownBytes.{Consumes};
 ghost use Rattle.http_read.specs.Bytes.{end_of, IsSound, HasFailed, IsRead};

@@ -45,7 +45,7 @@ impl Feed {
         &self.bytes.as_slice()[self.used..]
     }
 
-    /// Passes over the first bytes.
+    /// Drops the first bytes.
     pub fn pass(&mut self, n: usize)
         requires { n ≤ length self.old }
         ensures { self.new ≡ drop n self.old }
@@ -71,7 +71,7 @@ impl Feed {
     }
 }
 
-/// Takes the first bytes away.
+/// Removes the first bytes.
 fn drop_front(bytes: &mut Vec<u8>, n: usize)
     requires { n ≤ vec_len bytes.old }
     ensures { bytes.new.items ≡ drop n bytes.old.items }

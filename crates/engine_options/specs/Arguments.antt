@@ -29,7 +29,7 @@ number_rule name =
 abbrev pub word_rule : Text → Rule
 word_rule name = record (new_rule name) { value_names = 1; required = true; action = Some Set }
 
--- an argument with this rule and this name, of its own command alone
+-- an argument with this rule and this name, only of its own command
 pub record IsArgument (rule_is : Rule) (name : Text) (arg : Arg) : Type 0 where
   pub rule : rule_of arg ≡ rule_is
   pub id : arg.id.now ≡ name

@@ -1,4 +1,4 @@
--- What is said of a command line that gives a program nothing to do, and the exit status.
+-- What is reported of a command line that gives a program nothing to do, and the exit status.
 use Rattle.std.specs.Prelude.{ℕ, ◌≡◌, ◌⊎◌, List, codes}
 use Rattle.engine_options.specs.declared.misuse.Misuse.{Misuse}
 use Rattle.engine_options.specs.declared.misuse.Misuse.TheVariants.{NotUtf8, OutOfMemory, Refused}

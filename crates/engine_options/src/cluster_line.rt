@@ -38,7 +38,7 @@ fn cluster_matches<'a>(alloc: Global, words: &'a [String]) -> Result<ArgMatches<
     command.try_get_matches_from(words)
 }
 
-/// Reads the words of a command line, the program's name first: no other word is taken.
+/// Reads the words of a command line, the program's name first. Any other word is refused.
 pub fn cluster_options(alloc: Global, words: &[String]) -> Result<(), Error>
     ensures taken { takes cluster_app (words_of words.now) ≡ true
         → IfErr result (λ e. kind_of e ≡ ErrorKind.OutOfMemory) }

@@ -1,6 +1,6 @@
 //! Command lines that give a program nothing to do.
 //!
-//! Words that are no text get clap's line, which this port can't meet.
+//! Words that are not text are reported by clap's line for them. This port of clap never meets such words.
 
 ghost use Rattle.std.specs.Prelude.{ℕ, List, ◌≡◌};
 ghost use Rattle.http_read.specs.Bytes.{end_of, IsGiven};
@@ -19,7 +19,7 @@ use std::rt::HostRuntime;
 pub enum Misuse {
     NotUtf8,
     OutOfMemory,
-    /// What clap says, help among it.
+    /// What clap reports. Help is reported in the same way.
     Refused(Error),
 }
 
@@ -52,7 +52,7 @@ pub fn command_line(rt: &HostRuntime) -> Result<Vec<String>, Misuse> {
     Ok(env::args(rt)?.collect(rt.alloc())?)
 }
 
-/// Writes a text, and gives the status.
+/// Writes a text, and returns the status.
 fn tell<E: Write>(err: &mut Counted<E>, text: &str, status: u8) -> u8
     ensures status { result ≡ status }
     ensures said { IsGiven (end_of E.contents err.old err.new) text.now }
@@ -61,7 +61,7 @@ fn tell<E: Write>(err: &mut Counted<E>, text: &str, status: u8) -> u8
     status
 }
 
-/// Says why on the other writer, and returns the exit status: 2, or 1 if an allocation fails.
+/// Writes the reason on the other writer, and returns the exit status: 2, or 1 if an allocation fails.
 pub fn refuse<E: Write>(alloc: Global, err: &mut Counted<E>, why: &Misuse) -> u8
     ensures { (said : List ℕ) × IsTold why.now said result
         × IsGiven (end_of E.contents err.old err.new) said }

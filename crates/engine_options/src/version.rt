@@ -18,8 +18,8 @@ pub fn asks_version(words: &[String]) -> bool
     }
 }
 
-/// Writes a program's name and the heading of `docs/CHANGES.md` that it is of, and returns the exit status: 1
-/// if the writer fails.
+/// Writes a program's name and its version, the newest heading of `docs/CHANGES.md`, and returns the exit
+/// status: 1 if the writer fails.
 pub fn tell_version<W: Write>(
     alloc: Global,
     out: &mut Counted<W>,

@@ -24,7 +24,7 @@ pub record Broken (reader out err : End) (asked : Option ℕ) (path : List ℕ) 
   pub said : IsGiven err (codes "write failed\n")
   pub status_is : status ≡ 1
 
--- the line is the verdict's, or says that the reader or memory failed
+-- the line is the verdict's, or says that the reader or an allocation failed
 abbrev pub IsRefusal : End → Option ℕ → List ℕ → List ℕ → Type 0
 IsRefusal reader asked path line =
     ((input : List ℕ) × IsRead reader input × IsVerdict input asked path (says line))

@@ -27,7 +27,7 @@ pub record Begins (input : List ℕ) (framed : List FramedCommand) (orders : Lis
   pub each : AllByRecursion Fits framed
   pub commands : AllZip HasOrder framed orders
 
--- the first frame whose text is no command
+-- the first frame whose text is not a command
 pub record IsCommandFault (input line : List ℕ) : Type 0 where
   pub framed : List FramedCommand
   pub orders : List Order
@@ -40,7 +40,7 @@ pub record IsCommandFault (input line : List ℕ) : Type 0 where
   pub is : framed_reading command ≡ Err fault
   pub line_is : line ≡ fault_at (length framed + 1) (line_of fault)
 
--- bytes are left, and no frame is there, or as many frames as an input may have were read
+-- bytes are left, and no frame is there, or as many frames were read as an input may have
 pub record IsFramingFault (input line : List ℕ) : Type 0 where
   pub framed : List FramedCommand
   pub orders : List Order

@@ -20,7 +20,7 @@ pub record IsFed (e : FramedCommand) (before after : List (List ℕ)) : Type 0 w
   pub reads : HasOrder e order
   pub fed : after ≡ before ++ framed_value e ∷ []
 
--- the text is no command's, and this is the line of its fault, as the kth
+-- the text is not a command's, and this is the line of its fault, if it is the kth text
 pub record IsFaultLine (e : FramedCommand) (k : ℕ) (line : List ℕ) : Type 0 where
   pub fault : CommandFault
   pub reads : framed_reading e ≡ Err fault

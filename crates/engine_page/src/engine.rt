@@ -41,7 +41,7 @@ fn answered(
     }
 }
 
-/// What the input is answered with.
+/// The page or the line for an input.
 fn outcome_of(
     alloc: Global,
     input: &[u8],

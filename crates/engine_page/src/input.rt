@@ -81,7 +81,7 @@ pub(crate) fn fed(alloc: Global, input: &[u8]) -> Result<Input, AllocError>
     }
 }
 
-/// The line of a value that is no command, which is read once more for its fault.
+/// The line of a value that is not a command. The value is read once more for its fault.
 fn fault_at(alloc: Global, place: usize, value: &[u8]) -> Result<String, AllocError>
     requires { (order : Order) → value_reading value.now ≢ Ok order }
     ensures { IfOk result (λ line. (fault : Fault) × (value_reading value.now ≡ Err fault)

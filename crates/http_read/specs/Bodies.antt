@@ -56,7 +56,7 @@ pub record BeginsWithLine (tail : List ℕ) (line : ChunkLine) (rest : List ℕ)
   pub is_line : IsShortLine line
   pub whole : tail ≡ print_chunk_line line ++ rest
 
--- the first line is too long, or it is no chunk line
+-- the first line is too long, or it is not a chunk line
 abbrev pub IsNoLine : List ℕ → Type 0
 IsNoLine tail =
     ((LINE_LIMIT ≤ length tail) × HasNoFeed tail)

@@ -6,7 +6,7 @@ use Rattle.http_read.specs.declared.lengths.Stated.{Stated}
 use Rattle.http_read.specs.declared.lengths.Stated.TheVariants.{NoNumber, TooLarge, Fits}
 use Rattle.http_read.specs.Checks.{is_number}
 
--- it is no number, or one above 40,000, or this one
+-- it is not a number, or it is one above 40,000, or it is this one
 abbrev pub IsStated : List ℕ → Stated → Type 0
 IsStated value NoNumber = is_number value ≡ false
 IsStated value TooLarge = (is_number value ≡ true) × (BODY_LIMIT < digits_value 10 value)

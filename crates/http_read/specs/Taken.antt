@@ -1,4 +1,4 @@
--- What taking so many bytes of what is held shows.
+-- What becomes of the held bytes when a number of them is taken.
 use Rattle.std.specs.Prelude.{◌≡◌, ℕ, ◌+◌, List, ◌++◌, length}
 
 -- a front of what is held is added to the body; with what is missing then it has n bytes

@@ -26,7 +26,7 @@ pub(crate) struct Body {
 /// What came of reading on.
 #[derive(Clone, Copy)]
 pub(crate) enum BodyRead {
-    /// More bytes are wanted.
+    /// More bytes are needed.
     Open,
     Whole,
     /// A refusal: its status.

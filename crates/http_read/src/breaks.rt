@@ -7,7 +7,7 @@ use crate::inbox::Inbox;
 /// What is at the front.
 #[derive(Clone, Copy)]
 pub(crate) enum BreakRead {
-    /// More bytes are wanted.
+    /// More bytes are needed.
     Open,
     /// Two other bytes.
     Wrong,

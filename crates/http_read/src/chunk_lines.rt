@@ -11,9 +11,9 @@ use httparse::{Status, parse_chunk_size};
 /// What is at the front.
 #[derive(Clone, Copy)]
 pub(crate) enum LineRead {
-    /// More bytes are wanted.
+    /// More bytes are needed.
     Open,
-    /// No chunk line.
+    /// What is there is not a chunk line.
     Wrong,
     /// A chunk line, which states this size.
     Size(u64),

@@ -24,7 +24,7 @@ pub(crate) enum Look {
     Head(RequestSpans),
     /// No bytes can follow that make a head.
     Never,
-    /// More bytes are wanted.
+    /// More bytes are needed.
     Open,
 }
 
@@ -34,7 +34,7 @@ pub(crate) enum Found {
     At(RequestSpans),
     /// No head: the status of the refusal.
     Refused(u16),
-    /// More bytes are wanted.
+    /// More bytes are needed.
     Wanted,
 }
 

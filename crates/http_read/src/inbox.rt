@@ -59,7 +59,7 @@ impl Inbox {
         &self.buffer.as_slice()[self.start..self.end]
     }
 
-    /// Passes over the first bytes.
+    /// Drops the first bytes.
     pub(crate) fn pass(&mut self, n: usize)
         requires { n ≤ length self.old }
         ensures { self.new ≡ drop n self.old }

@@ -37,7 +37,7 @@ fn fields_of<'s>(bytes: &[u8], spans: &'s [HeaderSpan], found: RequestSpans) -> 
     &spans[..found.headers]
 }
 
-/// Puts the head to the tests, and reads its target.
+/// Tests the head, and reads its target.
 pub(crate) fn judge(
     alloc: Global,
     bytes: &[u8],

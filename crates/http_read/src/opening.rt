@@ -1,4 +1,4 @@
-//! Reads a head and puts it to the tests.
+//! Reads a head and tests it.
 ghost use Rattle.std.specs.Prelude.{◌≡◌, List, IfOk, OnErr};
 ghost use Rattle.http_read.specs.Opened.{ShowsHead};
 
@@ -13,7 +13,7 @@ use std::alloc::{AllocError, Global};
 /// What came of a head.
 #[derive(Drop)]
 pub(crate) enum Opened {
-    /// More bytes are wanted.
+    /// More bytes are needed.
     Open,
     /// A head that passes its tests, and nothing of the body.
     Head(Begun),

@@ -1,6 +1,6 @@
 //! How far a request is read.
 //!
-//! What a request may still take has a bound that falls, by which reading ends.
+//! How much of the input a request may still take has a bound. Each step lowers it, so reading ends.
 
 ghost use Rattle.std.specs.Prelude.{◌≡◌, ◌≢◌, ℕ, List, ◌++◌, Some, IfOk, OnErr, IfSome, IfNone};
 ghost use Rattle.http_read.specs.Incoming.{Shows};
@@ -16,12 +16,12 @@ use httparse::spans::HeaderSpan;
 use std::alloc::{AllocError, Global};
 use std::mem;
 
-/// How far the request is read whose first bytes are used already, and are held no more.
+/// How far a request is read. Its bytes that are used already are no longer held.
 #[derive(Drop)]
 pub enum Progress {
-    /// None is used: its head isn't whole.
+    /// No byte is used: the head is not whole.
     Head,
-    /// Its head is used, and so much of its body.
+    /// The head is used, and a part of the body.
     Body(Begun),
 }
 
@@ -79,10 +79,10 @@ fn take_begun(
     }
 }
 
-/// Reads on in what the inbox holds. `None`: more bytes are wanted, and an inbox has room for them.
+/// Reads on in what the inbox holds. `None`: more bytes are needed, and an inbox has room for them.
 ///
 /// After a request the progress is that of the next one. After a refusal the connection is to be closed. The
-/// spans are room for where field lines lie, of any length at first: they grow if a head or a trailer section
+/// spans are room for where field lines are, of any length at first: they grow if a head or a trailer section
 /// has more, up to 2,730 (87 KB). All other memory is allocated as `request` does.
 pub fn advance(
     alloc: Global,

@@ -1,6 +1,7 @@
 //! Reads one request.
 //!
-//! After a failed read no read is made. It differs from the input's end only by the count (`StopsAt`).
+//! After a failed read no other read is made. A failed read differs from the input's end only by the count
+//! (`StopsAt`).
 
 ghost use Rattle.std.specs.Prelude.{◌≡◌, ◌≢◌, ◌≤◌, ℕ, List, length, IfOk, IfErr, IfSome, IsErrOf, OnOk};
 ghost use Rattle.std.specs.Io.KnownBytes.{IsAtEnd, Keeps};
@@ -74,13 +75,13 @@ fn read_one<R: Read>(
 
 /// Reads one request, at the front of what the inbox holds and then of what the reader gives.
 ///
-/// After a request the inbox and the reader have exactly the bytes that follow it. After a refusal or a
-/// fault it is open what they have: the connection is to be closed. No call that failed is made again. Before
-/// a first byte has come, only the inbox takes memory.
+/// After a request the inbox and the reader have exactly the bytes that follow it. After a refusal or a fault
+/// no clause says what they have: the connection is to be closed. No call that failed is made again. Before a
+/// first byte has come, only the inbox allocates.
 ///
-/// A head has at most 8,192 bytes and 64 field lines, a body 40,000 bytes. Beyond the inbox a call takes at
-/// most 90 KB for where field lines lie (2 KB for a head of up to 64), 40 KB for a body, and 8 KB each for a
-/// copy of the target and for its path.
+/// A head has at most 8,192 bytes and 64 field lines, a body 40,000 bytes. Beyond the inbox a call allocates
+/// at most 90 KB for where field lines are (2 KB for a head of up to 64), 40 KB for a body, and 8 KB each for
+/// a copy of the target and for its path.
 pub fn request<R: Read>(
     alloc: Global,
     reader: &mut Counted<R>,

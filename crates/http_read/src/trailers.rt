@@ -17,7 +17,7 @@ pub(crate) enum Section {
     Whole(usize, usize),
     /// No bytes can follow that make one.
     Never,
-    /// More bytes are wanted.
+    /// More bytes are needed.
     Open,
 }
 
@@ -39,7 +39,7 @@ fn look_for_section(bytes: &[u8], spans: &mut Vec<HeaderSpan>) -> Result<Section
 /// What is at the front.
 #[derive(Clone, Copy)]
 pub(crate) enum TrailerRead {
-    /// More bytes are wanted.
+    /// More bytes are needed.
     Open,
     /// A whole section was there.
     Whole,

@@ -125,7 +125,7 @@ waiting Ended = Closing
 waiting Closing = Closing
 waiting Failed = Failed
 
--- what came of the next request is no whole one
+-- what came of the next request is not a whole one
 pub record Waits (old new : Connection) : Type 0 where
   pub waits : reading.Waits old.progress new.progress old.inbox new.inbox
   pub state : new.state ≡ waiting old.state

@@ -11,7 +11,7 @@ HasTalked service connection came said =
     (left : List ℕ) × HasLeft connection left
     × IsOpenTalk service came left (said ++ connection.outbox) connection.answered
 
--- so it is, and the last response was made
+-- the same, and the last response was made
 abbrev pub HasClosed : {S : Type 0} → Offered S → Connection → List ℕ → List ℕ → Type 0
 HasClosed service connection came said = IsWholeTalk service came (said ++ connection.outbox)
 

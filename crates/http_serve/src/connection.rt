@@ -1,7 +1,7 @@
 //! A client's connection, without what carries its bytes.
 //!
-//! If an allocation failed, the connection is over, and an earlier response is whole. A status of 400 closes
-//! it, whoever shows it.
+//! If an allocation failed, the connection is over, and an earlier response is whole. A response of status
+//! 400 closes the connection, even if it is a page's.
 
 ghost use Rattle.std.specs.Prelude.{◌≡◌, ◌⊎◌, ◌<◌, ℕ, List, length, true, false, IfOk, OnErr, IsTrue};
 ghost use Rattle.std.specs.Prelude.{IsFalse, ◌↔◌, MatchOption};
@@ -149,8 +149,8 @@ impl Connection {
     ///
     /// At most a hundred of a connection's requests are answered. The last response says so (`Connection:
     /// close`), and so does the response to a request that is refused, or whose client wants no further one.
-    /// If an allocation failed, the connection is closed too. The spans are room for where field lines lie
-    /// (`advance`), for all connections the same.
+    /// If an allocation failed, the connection is closed too. The spans are room for where field lines are
+    /// (`advance`). All connections use the same spans.
     pub fn advance<S: Service>(
         &mut self,
         alloc: Global,

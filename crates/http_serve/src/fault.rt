@@ -3,8 +3,8 @@ use http_read::ReadFault;
 use std::alloc::AllocError;
 use thiserror::Error;
 
-/// Why a connection was given up. The responses to its earlier requests were written whole; what is said
-/// below is of the next one.
+/// Why a connection was given up. The responses to its earlier requests were written whole. What follows is
+/// about the next request.
 #[derive(Clone, Copy, Debug, Drop, PartialEq, Eq, Error)]
 pub enum ServeFault {
     /// Number 1: a call of the reader failed. Nothing was written.

@@ -6,7 +6,7 @@ ghost use Rattle.http_serve.specs.Paths.{IsTicketPath};
 use crate::resource::{after, first_of, ticket_in};
 use site_ids::Ticket;
 
-/// What is got.
+/// The target of a GET request that begins with these bytes.
 fn target_of(bytes: &[u8]) -> Option<&[u8]>
     ensures { MatchOption result ((target : List ℕ) → ¬ (Gets bytes.now target))
         (λ target. Gets bytes.now target.now) }

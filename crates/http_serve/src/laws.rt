@@ -10,8 +10,8 @@ pub fn paths_name_one_resource()
     ensures { NamesOne }
 {}
 
-/// Exchanges one after another, each of which but the last keeps the connection, are what `serve` says of the
-/// whole.
+/// Exchanges one after another, each of which except the last keeps the connection, are what `serve` says of
+/// the whole.
 pub fn exchanges_are_a_connection<S: Service>(_service: &S)
     ensures { AreConnection S.offered }
 {}

@@ -9,7 +9,7 @@ ghost use Rattle.http_serve.specs.declared.outbox.TheConstants.{WAITING};
 use std::alloc::{AllocError, Global};
 use std::marker::Model;
 
-/// While so many bytes wait, no further request is answered. A response of so many bytes is a long one.
+/// While this many bytes wait, no further request is answered. A response of this many bytes is a long one.
 pub(crate) const WAITING: usize = 16_384;
 
 /// The responses that are not written yet, in order, without what of the first one is written.
@@ -125,7 +125,7 @@ impl Outbox {
         }
     }
 
-    /// Passes over the first bytes, which were written.
+    /// Drops the first bytes, which were written.
     pub(crate) fn pass(&mut self, n: usize)
         requires { n ≤ length self.old }
         ensures { self.new ≡ drop n self.old }

@@ -40,7 +40,7 @@ pub(crate) fn after<'a>(bytes: &'a [u8], prefix: &[u8]) -> Option<&'a [u8]>
     bytes.strip_prefix(prefix)
 }
 
-/// The ticket whose numbers these are, parted by a slash.
+/// The ticket with these two numbers, which a slash separates.
 pub(crate) fn ticket_in(rest: &[u8]) -> Option<Ticket>
     ensures { MatchOption result
         ((editor number : ℕ) → editor < 2 ^ 32 → number < 2 ^ 64

@@ -1,7 +1,7 @@
 //! Serves one connection.
 //!
-//! That nothing was written at a fault is said of an exchange: over a socket, no clause says which request
-//! failed.
+//! The clauses of an exchange say that nothing was written at a fault. Over a socket, no clause says which
+//! request failed.
 
 ghost use Rattle.std.specs.Prelude.{◌≡◌, ◌⊎◌, ◌+◌, ◌<◌, ◌≤◌, ℕ, suc, true, List, None, IfOk, IfSome, IsErrOf};
 ghost use Rattle.std.specs.Io.KnownBytes.{Appends};

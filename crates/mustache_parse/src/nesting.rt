@@ -62,7 +62,7 @@ fn own_of(alloc: Global, token: &Token) -> Result<Option<String>, TemplateFault>
     }
 }
 
-/// Whether a tag begins a line, and leaves it.
+/// Whether a tag begins a line that stays, as the tag is not standalone.
 fn stands_first(leads: bool, token: &Token) -> bool
     ensures { result ≡ (leads && not token.now.is_alone) }
 {
@@ -168,7 +168,7 @@ impl Nesting {
         }
     }
 
-    /// Puts the beginning of a line before a tag, unless the tag takes its lines away.
+    /// Puts the beginning of a line before a tag, if the tag begins a line that stays.
     fn begin_line(&mut self, alloc: Global, leads: bool) -> Result<(), TemplateFault>
         ensures opened { OnOk result (self.new.opened.items ≡ self.old.opened.items) }
         ensures levels { OnOk result ((w : List ℕ) (ls : Levels)

@@ -10,7 +10,7 @@ pub record Pair : Type 0 where
   pub opening : List ℕ
   pub closing : List ℕ
 
--- two braces each: these are in force where a text begins
+-- two braces each: these are in force at the front of a text
 abbrev pub braces : Pair
 braces = record { opening = 123 ∷ 123 ∷ []; closing = 125 ∷ 125 ∷ [] }
 

@@ -1,6 +1,6 @@
--- A bridge from the code to the reading, and no definition: the next tag that it finds, what that takes of
--- the text, and what is left of the literal before it. `StandaloneLemmas`, `TakenLemmas` and `StepLemmas` tie
--- it to `Standalone`.
+-- A bridge from the code to the reading, not a definition: the next tag that the code finds, what that tag
+-- takes of the text, and what is left of the literal before it. `StandaloneLemmas`, `TakenLemmas` and
+-- `StepLemmas` tie it to `Standalone`.
 use Rattle.std.specs.Prelude.{ℕ, true, false, List, [], ◌∷◌, Option, None, Some, Result, Ok, Err, slice_range}
 use Rattle.mustache_scan.specs.Cutting.{stripped}
 use Rattle.mustache_scan.specs.Reading.{Opened, wrong_inside, name_of}

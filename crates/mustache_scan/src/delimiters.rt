@@ -1,4 +1,5 @@
-//! The end of a raw or delimiter tag is one needle; to look at the byte before goes wrong on `{{{n}}}}`.
+//! The end of a raw or delimiter tag is one text to search for. To search for the closing delimiter and look
+//! at the byte before it goes wrong on `{{{n}}}}`.
 
 ghost use Rattle.std.specs.Prelude.{◌≡◌, ◌==◌, ◌||◌, ◌++◌, ◌∷◌, true, not, IfOk, option_map, string_bytes};
 ghost use Rattle.std.specs.List.{list_any, position_or_len};

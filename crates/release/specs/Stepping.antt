@@ -1,4 +1,4 @@
--- What a command that is no repeat does to the site of those before it.
+-- What a command that is not a repeat does to the site of those before it.
 use Rattle.std.specs.Prelude.{◌≡◌, List, [], ◌∷◌, ◌++◌}
 use Rattle.command.specs.Action.{Order}
 use Rattle.content.specs.Answered.{answered}

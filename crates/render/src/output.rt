@@ -1,6 +1,5 @@
 //! A page pays for an escaped text after it was added, by how much the page grew. So it may grow past its
 //! limit by one value at most.
-//! limit by one value.
 
 ghost use Rattle.std.specs.Prelude.{◌≡◌, [], string_bytes};
 ghost use Rattle.render.specs.Printed.{escaped};

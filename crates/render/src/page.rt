@@ -1,5 +1,5 @@
-//! Sections, items, partials are paid before entered, which ends recursive ones too; depth is judged after
-//! the text was read.
+//! The cost of a section, an item or a partial is paid before it is entered. So recursive partials end, too.
+//! The depth is checked after the text of a partial was read.
 
 ghost use Rattle.std.specs.Prelude.{◌≡◌, [], IfOk, IsErrOf, Some, None, string_bytes};
 ghost use Rattle.context.specs.View.{data_view};

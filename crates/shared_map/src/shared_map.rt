@@ -11,7 +11,7 @@ use std::alloc::{AllocError, Global};
 use std::marker::Model;
 use std::rc::Rc;
 
-/// A map from keys in their order. A copy shares what it has in common with the map that it is of: each costs
+/// A map from keys in their order. A copy shares what it has in common with its original. Each map costs only
 /// what changes in it.
 #[derive(Drop)]
 pub struct SharedMap<K: Ord, V> {
@@ -62,7 +62,8 @@ impl<K: Ord + Drop, V: Drop> SharedMap<K, V> {
         self.tree.height()
     }
 
-    /// A map with the same entries, which it shares with this one. Either changes by itself.
+    /// A map with the same entries, which it shares with this one. A change of either does not change the
+    /// other.
     pub fn copy(&self) -> Result<Self, AllocError>
         ensures { IfOk result (λ m. m ≡ self.now) }
     {
@@ -85,7 +86,7 @@ impl<K: Ord + Drop, V: Drop> SharedMap<K, V> {
         Ok(())
     }
 
-    /// Takes away what is at a key, if there is something.
+    /// Removes what is at a key, if there is something.
     pub fn remove<Q: Sought<K>>(&mut self, key: Q) -> Result<(), AllocError>
         ensures ok { OnOk result (self.new ≡ remove (Q.compare key) self.old) }
         ensures gone { OnOk result (find (Q.compare key) self.new ≡ None) }

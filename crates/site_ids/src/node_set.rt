@@ -9,7 +9,7 @@ use std::marker::Model;
 /// Some of at most nine nodes.
 #[derive(Clone, Copy, Debug, PartialEq, Eq, Drop)]
 pub struct NodeSet {
-    // of node p whether it is one of them, at the place p - 1
+    // whether node p is one of them, at the place p - 1
     members: [bool; 9],
 }
 
@@ -82,14 +82,14 @@ impl NodeSet {
         self.members[usize::from(node.number()) - 1]
     }
 
-    /// Of node p whether it is one of them, at the place p - 1.
+    /// Whether node p is one of them, at the place p - 1.
     pub fn places(self) -> [bool; 9]
         ensures { result ≡ self }
     {
         self.members
     }
 
-    /// Those of this set and of the other one.
+    /// The nodes of this set and of the other one.
     pub fn union(self, other: NodeSet) -> NodeSet
         ensures { AreUnited self other result }
     {
@@ -98,7 +98,7 @@ impl NodeSet {
         }
     }
 
-    /// How many they are.
+    /// How many nodes the set has.
     pub fn len(self) -> usize
         ensures count { result ≡ count_of self }
         ensures range { result ≤ 9 }

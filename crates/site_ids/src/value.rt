@@ -47,7 +47,7 @@ impl Value {
         self.bytes.as_slice()
     }
 
-    /// A copy that shares the bytes, and takes no memory.
+    /// A copy that shares the bytes. It does not allocate.
     pub fn try_clone(&self) -> Result<Value, AllocError>
         ensures { IfOk result (λ v. v ≡ self.now) }
     {

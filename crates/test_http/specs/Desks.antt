@@ -3,8 +3,8 @@ use Rattle.std.specs.Prelude.{ℕ, nat_lt, ◌||◌, ◌==◌, if◌then◌else�
 use Rattle.std.specs.Prelude.{Some, None}
 use Rattle.release.specs.Page.{Page, in_place, moved_to, not_found, no_template}
 
--- release 1 has this page at `/h`, and each other another one; at `/lost` a template is missing; `/old` and
--- `/alt` moved
+-- release 1 has this page at `/h`, and each other release has another; at `/lost` a template is missing;
+-- `/old` and `/alt` moved
 abbrev pub shown_at : List ℕ → ℕ → List ℕ → Page
 shown_at page n path =
     if bytes_eq path (codes "/h") then in_place 200 (if n == 1 then page else codes "later\n")

@@ -1,4 +1,4 @@
-//! Which receipt a connection's next request asks for, as its first bytes tell.
+//! Which receipt a connection's next request asks for, as its first bytes show.
 use crate::comparing::{ensure, same};
 use http_read::Counted;
 use http_serve::Connection;

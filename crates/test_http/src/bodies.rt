@@ -1,7 +1,7 @@
 //! Bodies by length and by chunks.
 use crate::pieces::{Row, check};
 
-/// What follows `POST /p HTTP/1.1` and a Host line: a Content-Length line and what stands after the head.
+/// What follows `POST /p HTTP/1.1` and a Host line: a Content-Length line, and what comes after the head.
 const BY_LENGTH: &[Row] = &[
     ("Content-Length: 3\r\n\r\nabc", "POST /p with abc"),
     (
@@ -25,11 +25,11 @@ const BY_CHUNKS: &[Row] = &[
     ("A\r\n0123456789\r\n0\r\n\r\n", "POST /p with 0123456789"),
     ("a\r\n0123456789\r\n0\r\n\r\n", "POST /p with 0123456789"),
     ("0000000000000001\r\na\r\n0\r\n\r\n", "POST /p with a"),
-    // Chunk extensions are passed over, and spaces after the size.
+    // Chunk extensions are ignored, and so are spaces after the size.
     ("3;x=y\r\nabc\r\n0;z\r\n\r\n", "POST /p with abc"),
     ("3 \t\r\nabc\r\n0\r\n\r\n", "POST /p with abc"),
     ("3 ;\r\nabc\r\n0\r\n\r\n", "POST /p with abc"),
-    // Trailer fields are passed over, whatever they say.
+    // Trailer fields are ignored, whatever they say.
     ("0\r\nA: b\r\nContent-Length: 9\r\n\r\n", "POST /p"),
     ("0\r\nA: b\n\n", "POST /p"),
     ("0\r\n\n", "POST /p"),
@@ -37,7 +37,7 @@ const BY_CHUNKS: &[Row] = &[
     ("0\r\nA : b\r\n\r\n", "400"),
     ("0\r\nA: b\r\n c\r\n\r\n", "400"),
     ("0\r\n\rX", "400"),
-    // Lines that are none.
+    // Invalid lines.
     ("x\r\n", "400"),
     ("\r\n", "400"),
     ("-1\r\n", "400"),
@@ -47,12 +47,12 @@ const BY_CHUNKS: &[Row] = &[
     ("1\n", "400"),
     ("1\r\r\n", "400"),
     ("00000000000000001\r\n", "400"),
-    // Chunks that are longer or shorter than they say.
+    // Chunks that are longer or shorter than their line says.
     ("3\r\nabcXY", "400"),
     ("3\r\nabc\n0", "400"),
     ("3\r\nabcd\r\n", "400"),
     ("3\r\nab\r\n0\r\n", "400"),
-    // Over 40,000 bytes in all, found at the chunk that makes it so.
+    // Over 40,000 bytes in all: the refusal comes at the chunk that exceeds the limit.
     ("9C41\r\n", "413"),
     ("FFFFFFFFFFFFFFFF\r\n", "413"),
     ("3\r\nabc\r\n9C3E\r\n", "413"),
@@ -71,7 +71,8 @@ const BY_CHUNKS: &[Row] = &[
     ("0\r\nA: b\r\n\r", "ended early"),
 ];
 
-/// What follows a head of HEAD with chunked coding: a refusal says that it is of HEAD also after the head.
+/// What follows a HEAD request's head with chunked coding: a refusal in the body still says that it is of
+/// HEAD.
 const BEHIND_HEAD: &[Row] = &[
     ("3\r\nabc\r\n0\r\n\r\n", "HEAD / with abc"),
     ("9C41\r\n", "413 to HEAD"),

@@ -1,4 +1,4 @@
-//! Requests cut in every way, cut off after each byte, and over a reader that fails in place of each call.
+//! Requests cut in every way, cut off after each byte, and read by a reader that fails at each call.
 use crate::pieces::{Input, check_one};
 use std::alloc::Global;
 use std::process::Abort;
@@ -9,7 +9,7 @@ const FIRST: &str = "GET /%68?x HTTP/1.1\r\nHost: a\r\n\r\n";
 const SUBMISSION: &str =
     "POST /_submit/1/5 HTTP/1.1\r\nHost: a\r\nTransfer-Encoding: chunked\r\n\r\n4\r\nrele\r\n4\r\nase\n\r\n0\r\n\r\n";
 
-/// The one request of a reader comes to that, after so many calls that failed.
+/// Checks that the reader's one request reads as expected, after this many failed calls.
 fn check_alone(
     rt: &impl Abort,
     alloc: Global,
@@ -24,7 +24,7 @@ fn check_alone(
     drop(input);
 }
 
-/// It comes to that in a first piece and pieces of one size.
+/// Checks the request in a first piece and then in pieces of one size.
 fn check_pieces(
     rt: &impl Abort,
     alloc: Global,
@@ -37,7 +37,7 @@ fn check_pieces(
     check_alone(rt, alloc, reader, expected, 0, first);
 }
 
-/// For each cut into two, and in pieces of each size.
+/// Checks each cut into two, and pieces of each size.
 fn check_cuts(rt: &impl Abort, alloc: Global, whole: &[u8], expected: &str) {
     for cut in 0..whole.len() {
         check_pieces(rt, alloc, whole, cut, usize::MAX, expected);
@@ -45,7 +45,7 @@ fn check_cuts(rt: &impl Abort, alloc: Global, whole: &[u8], expected: &str) {
     }
 }
 
-/// Cut off after each byte.
+/// Checks that the input ended early if it is cut off after any byte.
 fn check_short(rt: &impl Abort, alloc: Global, whole: &[u8]) {
     check_pieces(rt, alloc, b"", 5, 5, "ended");
     for len in 1..whole.len() {
@@ -53,7 +53,7 @@ fn check_short(rt: &impl Abort, alloc: Global, whole: &[u8]) {
     }
 }
 
-/// A read that fails in place of each call.
+/// Checks a read that fails at each call.
 fn check_failures(rt: &impl Abort, alloc: Global, whole: &[u8]) {
     for good in 0..whole.len() {
         let reader = in_pieces(whole, 1, 1, good);
@@ -61,7 +61,7 @@ fn check_failures(rt: &impl Abort, alloc: Global, whole: &[u8]) {
     }
 }
 
-/// One in place of the call after the last byte isn't made.
+/// Checks that no call is made after the last byte: a reader that would fail there does no harm.
 fn check_last(rt: &impl Abort, alloc: Global, whole: &[u8], expected: &str) {
     let reader = in_pieces(whole, 1, 1, whole.len());
     check_alone(rt, alloc, reader, expected, 0, whole.len());
@@ -87,7 +87,7 @@ fn a_submission_by_chunks(rt: HostRuntime) {
     check_all(&rt, rt.alloc(), SUBMISSION, expected);
 }
 
-/// A head that no continuation mends is refused as soon as it is seen, and not read on.
+/// A head that no continuation makes valid is refused as soon as it is seen. The reader does not read on.
 #[test]
 fn a_bad_head_is_not_passed_over(rt: HostRuntime) {
     let bad = b"GET / HTTP/1.1\r\nHost : a\r\n";

@@ -13,7 +13,7 @@ use site_ids::{Instance, Ticket};
 use std::alloc::{AllocError, Global};
 use std::process::Abort;
 
-/// How submissions are met.
+/// How the service responds to submissions.
 #[derive(Clone, Copy, PartialEq, Eq)]
 pub(crate) enum Mood {
     Open,
@@ -22,19 +22,19 @@ pub(crate) enum Mood {
     Starved,
 }
 
-/// Shows releases, of which the first has this page at `/h`, and keeps the values submitted.
+/// A service that shows releases and keeps the submitted values. The first release has this page at `/h`.
 #[derive(Drop)]
 pub(crate) struct Desk<'a> {
     pub alloc: Global,
     pub page: &'a str,
     pub newest: u64,
-    /// The instance of every ticket.
+    /// The instance in every ticket's receipt.
     pub receipt: Option<Instance>,
     pub mood: Mood,
     pub values: Vec<Vec<u8>>,
 }
 
-/// One that is open, with this page, this many releases, and no receipts.
+/// An open service with this page, this many releases, and no receipts.
 pub(crate) fn desk_of(alloc: Global, page: &str, newest: u64) -> Desk<'_> {
     Desk {
         alloc,
@@ -46,12 +46,12 @@ pub(crate) fn desk_of(alloc: Global, page: &str, newest: u64) -> Desk<'_> {
     }
 }
 
-/// One whose page is `Hi`.
+/// An open service whose page is `Hi`.
 pub(crate) fn open_desk(alloc: Global, newest: u64) -> Desk<'static> {
     desk_of(alloc, "Hi\n", newest)
 }
 
-/// It took so many submissions.
+/// Checks how many submissions it accepted.
 pub(crate) fn took(rt: &impl Abort, desk: &Desk<'_>, count: usize) {
     same(rt, desk.values.len(), count);
 }
@@ -88,7 +88,7 @@ fn shown(alloc: Global, page: &str, n: u64, path: &str) -> Result<Answer, AllocE
     }
 }
 
-/// Why the value is no command.
+/// Why the value is not a command.
 fn refusal_of(alloc: Global, value: &[u8]) -> Option<SubmitFault>
     ensures { IfSome result IsTold }
 {
@@ -114,7 +114,7 @@ fn keep(values: &mut Vec<Vec<u8>>, value: Vec<u8>) -> Result<(), AllocError>
     Ok(values.push(value)?)
 }
 
-/// What the submissions leave is seen by the tests, and said in no clause.
+/// The tests check what the submissions leave. No clause says it.
 impl Service for Desk<'_> {
     ghost offered = { record {
       newest_is = λ d. d.newest;

@@ -6,7 +6,7 @@ use http_serve::ServeFault;
 use std::process::Abort;
 use test_ends::in_pieces;
 
-/// Cut into two after each byte, and in pieces of each size, these bytes are answered so.
+/// Checks that these bytes are answered so, cut into two after each byte and in pieces of each size.
 pub(crate) fn answers_in_pieces(
     rt: &impl Abort,
     desk: &mut Desk<'_>,
@@ -19,7 +19,7 @@ pub(crate) fn answers_in_pieces(
     }
 }
 
-/// Cut off within the bytes, after so many of them or more, the input ended early, and that is written.
+/// Checks each end within the bytes, from this length on: the input ended early, and that is written.
 pub(crate) fn ends_early(
     rt: &impl Abort,
     desk: &mut Desk<'_>,
@@ -33,7 +33,8 @@ pub(crate) fn ends_early(
     }
 }
 
-/// A reader that gives a byte a call and fails after so many is a fault of the reader, and that is written.
+/// Checks a reader that gives one byte a call and fails after `good` bytes: the fault is the reader's, and
+/// that is written.
 pub(crate) fn fails_behind(
     rt: &impl Abort,
     desk: &mut Desk<'_>,
@@ -45,7 +46,7 @@ pub(crate) fn fails_behind(
     reads(rt, desk, reader, Err(ServeFault::Read), written, good);
 }
 
-/// So is one that fails within the bytes, after so many of them or more.
+/// Checks the same at each place within the bytes, from this length on.
 pub(crate) fn fails_to_read(
     rt: &impl Abort,
     desk: &mut Desk<'_>,
@@ -58,7 +59,8 @@ pub(crate) fn fails_to_read(
     }
 }
 
-/// A writer that fails after each number of bytes is a fault of the writer, and those are written.
+/// Checks a writer that fails after each number of bytes: the fault is the writer's, and those bytes are
+/// written.
 pub(crate) fn fails_to_write(rt: &impl Abort, desk: &mut Desk<'_>, bytes: &[u8], written: &[u8]) {
     for room in 0..written.len() {
         let begun = &written[..room];
@@ -67,7 +69,7 @@ pub(crate) fn fails_to_write(rt: &impl Abort, desk: &mut Desk<'_>, bytes: &[u8],
     }
 }
 
-/// A writer may take pieces of each size.
+/// Checks writers that take pieces of each size.
 pub(crate) fn writes_in_pieces(rt: &impl Abort, desk: &mut Desk<'_>, bytes: &[u8], written: &[u8]) {
     for piece in 1..=written.len() {
         writes(rt, desk, bytes, (usize::MAX, piece), Ok(()), written);

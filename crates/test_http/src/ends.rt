@@ -1,4 +1,4 @@
-//! A connection between a reader and a writer over memory that work in pieces and may fail.
+//! A connection between a reader and a writer in memory. Both work in pieces, and may fail.
 
 use crate::comparing::{ensure, same};
 use crate::desk::Desk;
@@ -9,7 +9,7 @@ use std::fmt::Debug;
 use std::process::Abort;
 use test_ends::{Pieces, Sink, in_pieces, whole};
 
-/// How a connection ends: given up, or not.
+/// How a connection ends: with a fault or without one.
 pub(crate) type Outcome = Result<(), ServeFault>;
 
 /// What came of a connection.
@@ -49,7 +49,8 @@ pub(crate) fn served(desk: &mut Desk<'_>, reader: Pieces<'_>) -> Connection {
     served_into(desk, reader, writer)
 }
 
-/// Whether a connection came to that result: a fault of its reader or its writer is one call that failed.
+/// Whether a connection ended with that result. A fault of its reader or its writer is exactly one failed
+/// call.
 fn is_result(run: &Connection, wanted: Outcome) -> bool {
     let (reads, writes) = match wanted {
         Err(ServeFault::Read) => (1, 0),
@@ -59,7 +60,7 @@ fn is_result(run: &Connection, wanted: Outcome) -> bool {
     run.result == wanted && run.failed_reads == reads && run.failed_writes == writes
 }
 
-/// A connection came to that result, and that was written.
+/// Checks that a connection ended with that result, and that this was written.
 fn ends<T: PartialEq + Debug + Copy>(
     rt: &impl Abort,
     run: &Connection,
@@ -71,7 +72,7 @@ fn ends<T: PartialEq + Debug + Copy>(
     ensure(rt, is_result(run, outcome), of);
 }
 
-/// What is read so comes to that result, and that is written.
+/// Checks the result, and what is written, if this reader gives the input.
 pub(crate) fn reads(
     rt: &impl Abort,
     desk: &mut Desk<'_>,
@@ -85,7 +86,7 @@ pub(crate) fn reads(
     drop(run);
 }
 
-/// So does what is sent at once.
+/// Checks the same for bytes that are sent at once.
 pub(crate) fn sends(
     rt: &impl Abort,
     desk: &mut Desk<'_>,
@@ -97,7 +98,7 @@ pub(crate) fn sends(
     reads(rt, desk, whole(bytes), outcome, written, of);
 }
 
-/// What comes in a first piece and then in pieces of one size is answered so.
+/// Checks the answer to bytes that come in a first piece and then in pieces of one size.
 pub(crate) fn answers(
     rt: &impl Abort,
     desk: &mut Desk<'_>,
@@ -110,7 +111,7 @@ pub(crate) fn answers(
     reads(rt, desk, reader, Ok(()), written, first);
 }
 
-/// What is sent at once comes to that over a writer with so much room, which takes pieces of that size.
+/// Checks what is sent at once over a writer with that much room, which takes pieces of that size.
 pub(crate) fn writes(
     rt: &impl Abort,
     desk: &mut Desk<'_>,
@@ -143,7 +144,7 @@ pub(crate) const PLAIN: &str = "text/plain";
 
 pub(crate) const CLOSE: &str = "Connection: close\r\n";
 
-/// The bytes of the response, or of its head alone, where the client lets its connection stay.
+/// The bytes of the response, or only of its head. The client lets its connection stay.
 pub(crate) fn response(alloc: Global, row: &Row, to_head: bool) -> Result<String, AllocError> {
     let body = if to_head { "" } else { row.4 };
     format!(in alloc;
@@ -156,14 +157,14 @@ pub(crate) fn response(alloc: Global, row: &Row, to_head: bool) -> Result<String
     )
 }
 
-/// The request is answered so, and no call failed.
+/// Checks that the request is answered so, and that no call failed.
 pub(crate) fn check(rt: &impl Abort, desk: &mut Desk<'_>, request: &str, expected: &str) {
     let run = served(desk, whole(request.as_bytes()));
     ends(rt, &run, Ok(()), expected.as_bytes(), request);
     drop(run);
 }
 
-/// The request has this response, or its head alone.
+/// Checks that the request has this response, or only its head.
 pub(crate) fn responds(
     rt: &impl Abort,
     desk: &mut Desk<'_>,

@@ -8,11 +8,11 @@ const LINES: &[Row] = &[
     ("POST /%68?x HTTP/1.1\r\n", "POST /h"),
     ("GET / HTTP/1.0\r\n", "GET / and closes"),
     ("GET / HTTP/1.1\n", "GET /"),
-    // Line breaks before the request line are passed over.
+    // Line breaks before the request line are ignored.
     ("\r\n\n\r\nGET / HTTP/1.1\r\n", "GET /"),
     ("\rGET / HTTP/1.1\r\n", "400"),
     ("\r\n GET / HTTP/1.1\r\n", "400"),
-    // No other version, no further space.
+    // No other version, no extra space.
     ("GET / HTTP/1.2\r\n", "400"),
     ("GET / HTTP/2.0\r\n", "400"),
     ("GET / http/1.1\r\n", "400"),
@@ -53,11 +53,11 @@ const FIELDS: &[Row] = &[
     ("Host: a\r\nX\r\n", "400"),
     ("Host: a\r\n: b\r\n", "400"),
     ("Host: a\r\nX(: b\r\n", "400"),
-    // No control byte but the tab.
+    // No control byte except the tab.
     ("Host: a\rX: b\r\n", "400"),
     ("Host: a\r\nX: \0\r\n", "400"),
     ("Host: a\r\nX: \x7f\r\n", "400"),
-    // Transfer codings end in chunked, and there is no other.
+    // Transfer codings end in chunked, and no other coding is known.
     ("Host: a\r\nTransfer-Encoding: gzip\r\n", "400"),
     ("Host: a\r\nTransfer-Encoding: gzip, chunked\r\n", "501"),
     (
@@ -134,8 +134,8 @@ const OLD_CONNECTIONS: &[Row] = &[
     ("Connection: close\r\n", "GET / and closes"),
 ];
 
-/// Whole heads that fail a test, or two: the first one tells the status. HTTP/1.0 may leave Host out and has
-/// no transfer codings.
+/// Whole heads that fail one test or two: the first failed test sets the status. HTTP/1.0 may leave Host out
+/// and has no transfer codings.
 const ORDER: &[Row] = &[
     ("GET / HTTP/1.0\r\n\r\n", "GET / and closes"),
     ("GET / HTTP/1.0\r\nHost: a\r\nHost: a\r\n\r\n", "400"),

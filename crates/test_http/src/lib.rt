@@ -1,7 +1,7 @@
-//! Requests and what comes of them, as tables: their heads, targets and bodies, in pieces, cut, at the
-//! limits, several on a connection, and where a reading stands; then served from a service in memory
-//! (`desk`): each path with each method, submissions, refusals, over ends that fail, in steps (`lines`), and
-//! several at once (`pipelined`); each growth refused.
+//! Tables of requests and of what comes of them. First reading: heads, targets and bodies, in pieces, cut, at
+//! the limits, several on a connection, and how far a reading is. Then service from memory (`desk`): each
+//! path with each method, submissions, refusals, readers and writers that fail, steps (`lines`), and several
+//! requests at once (`pipelined`). Each allocation is made to fail once.
 #![tactic(auto)]
 
 #[cfg(test)]

@@ -1,10 +1,10 @@
-//! Requests at the limits of their parts, and one past them.
+//! Requests at the limits of their parts, and one past each limit.
 use crate::pieces::check_one;
 use crate::texts::{joined, times};
 use std::alloc::Global;
 use std::process::Abort;
 
-/// What stands before, a part, how often, what stands after, and what that comes to.
+/// What comes before, a part, how often it is repeated, what comes after, and the result.
 type Row = (
     &'static str,
     &'static str,
@@ -36,7 +36,7 @@ const HEADS: &[Row] = &[
     ("", "a", 8_193, "", "431"),
     (BEGUN, "a", 8_158, "", "ended early"),
     (BEGUN, "a", 8_159, "", "431"),
-    // Line breaks alone.
+    // Only line breaks.
     ("", "\r\n", 4_096, "", "ended early"),
     ("", "\r\n", 4_097, "", "431"),
 ];
@@ -88,7 +88,7 @@ const TRAILERS: &[Row] = &[
     ("0\r\nA: ", "a", 8_190, "", "431"),
 ];
 
-/// The row's request, after these bytes.
+/// Checks the row's request after these bytes.
 fn check_row(rt: &impl Abort, alloc: Global, ahead: &str, row: &Row) {
     let middle = times(rt, alloc, row.1, row.2);
     let front = joined(rt, alloc, ahead, row.0, middle.as_str());
@@ -122,7 +122,7 @@ fn trailers(rt: HostRuntime) {
     check_rows(&rt, rt.alloc(), CHUNKED, TRAILERS);
 }
 
-/// A POST of so many letters comes to them.
+/// Checks that a POST of this many letters is read as these letters.
 fn check_letters(rt: &impl Abort, alloc: Global, request: &str, letters: &str) {
     let expected = joined(rt, alloc, "POST / with ", letters, "");
     check_one(rt, alloc, request, expected.as_str());
@@ -135,7 +135,7 @@ fn check_by_length(rt: &impl Abort, alloc: Global, letters: &str) {
     check_letters(rt, alloc, text.as_str(), letters);
 }
 
-/// Chunks, after the head.
+/// These chunks after the head.
 fn chunked(rt: &impl Abort, alloc: Global, chunks: &str) -> String {
     joined(rt, alloc, CHUNKED, chunks, "0\r\n\r\n")
 }
@@ -146,7 +146,7 @@ fn check_in_a_chunk(rt: &impl Abort, alloc: Global, letters: &str) {
     check_letters(rt, alloc, text.as_str(), letters);
 }
 
-/// 40,000 letters, whole after a head and in one chunk.
+/// 40,000 letters, as a whole after a head and in one chunk.
 #[test]
 fn bodies(rt: HostRuntime) {
     let letters = times(&rt, rt.alloc(), "a", 40_000);
@@ -154,7 +154,7 @@ fn bodies(rt: HostRuntime) {
     check_in_a_chunk(&rt, rt.alloc(), letters.as_str());
 }
 
-/// So many chunks of one letter.
+/// This many chunks of one letter.
 fn many_chunks(rt: &impl Abort, alloc: Global, count: usize) -> String {
     let chunks = times(rt, alloc, "1\r\na\r\n", count);
     chunked(rt, alloc, chunks.as_str())

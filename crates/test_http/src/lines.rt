@@ -1,5 +1,5 @@
-//! Connections whose bytes come and go in many steps: cut in every way, over ends of which calls come too
-//! early, up to a fault, and up to the last response.
+//! Connections whose bytes come and go in many steps: cut in every way, with calls that come too early, up to
+//! a fault, and up to the last response.
 use crate::comparing::{ensure, same};
 use crate::desk::{Desk, open_desk, took};
 use crate::responses::{BAD, LAST_PAGE, PAGE};
@@ -9,12 +9,12 @@ use crate::texts::times;
 use std::process::Abort;
 use test_ends::{Pieces, in_pieces, whole};
 
-/// Whether the connection is over, and so many requests are answered.
+/// Whether the connection is over, and this many requests are answered.
 fn is_over(run: &Run, answered: u32) -> bool {
     run.is_over && run.result.is_ok() && run.answered == answered
 }
 
-/// What is read so comes to that: what is written, and how many requests are answered.
+/// Checks what is written, and how many requests are answered, for what this reader gives.
 fn check(
     rt: &impl Abort,
     desk: &mut Desk<'_>,
@@ -30,7 +30,7 @@ fn check(
     drop(run);
 }
 
-/// So does what comes in a first piece and then in pieces of one size.
+/// Checks the same for bytes that come in a first piece and then in pieces of one size.
 fn check_pieces(
     rt: &impl Abort,
     desk: &mut Desk<'_>,
@@ -44,7 +44,7 @@ fn check_pieces(
     check(rt, desk, reader, AMPLE, written, answered, first);
 }
 
-/// Two requests, cut into two after each byte and in pieces of each size.
+/// Checks two requests, cut into two after each byte and in pieces of each size.
 fn check_cuts(rt: &impl Abort, desk: &mut Desk<'_>, both: &[u8], pages: &[u8]) {
     for cut in 0..=both.len() {
         check_pieces(rt, desk, both, cut, cut, pages, 2);
@@ -52,7 +52,7 @@ fn check_cuts(rt: &impl Abort, desk: &mut Desk<'_>, both: &[u8], pages: &[u8]) {
     }
 }
 
-/// Writers that take each number of bytes at a time.
+/// Checks writers that take each number of bytes at a time.
 fn check_writers(rt: &impl Abort, desk: &mut Desk<'_>, both: &[u8], pages: &[u8]) {
     for piece in 1..=pages.len() {
         let room = (usize::MAX, piece);
@@ -60,22 +60,22 @@ fn check_writers(rt: &impl Abort, desk: &mut Desk<'_>, both: &[u8], pages: &[u8]
     }
 }
 
-/// A writer that fails after these bytes of the responses. Both requests were answered before.
+/// Checks a writer that fails after these bytes of the responses. Both requests were answered before.
 fn check_begun(rt: &impl Abort, desk: &mut Desk<'_>, begun: &[u8]) {
     let room = begun.len();
     let writer = (room, usize::MAX);
     check(rt, desk, whole(BOTH), writer, begun, 2, room);
 }
 
-/// Writers that fail after each number of bytes.
+/// Checks writers that fail after each number of bytes.
 fn check_broken(rt: &impl Abort, desk: &mut Desk<'_>) {
     for room in 0..BOTH_PAGES.len() {
         check_begun(rt, desk, &BOTH_PAGES[..room]);
     }
 }
 
-/// A client that sends no more after so many bytes, and a reader that fails there: what was whole is
-/// answered.
+/// Checks a client that sends no more after this many bytes, and a reader that fails there: each whole
+/// request is answered.
 fn check_short(rt: &impl Abort, desk: &mut Desk<'_>, len: usize, written: &[u8], answered: u32) {
     let front = whole(&BOTH[..len.min(BOTH.len())]);
     check(rt, desk, front, AMPLE, written, answered, len);
@@ -83,7 +83,7 @@ fn check_short(rt: &impl Abort, desk: &mut Desk<'_>, len: usize, written: &[u8],
     check(rt, desk, failing, AMPLE, written, answered, len);
 }
 
-/// The same after each number of bytes from this one on, up to that one.
+/// Checks the same for each number of bytes in this range.
 fn check_each_short(
     rt: &impl Abort,
     desk: &mut Desk<'_>,
@@ -118,7 +118,8 @@ const POST: &[u8] = b"POST /_submit/1/5 HTTP/1.1\r\nHost: a\r\nContent-Length: 8
 pub(crate) const QUEUED: &[u8] =
     b"HTTP/1.1 202 Accepted\r\nContent-Type: text/plain; charset=utf-8\r\nContent-Length: 7\r\n\r\nqueued\n";
 
-/// A submission cut after this byte is taken once, and told once, by a writer that takes a byte at a time.
+/// Checks that a submission cut after this byte is accepted once, and answered once, by a writer that takes a
+/// byte at a time.
 fn check_taken(rt: &impl Abort, mut desk: Desk<'_>, cut: usize) {
     let reader = in_pieces(POST, cut, usize::MAX, usize::MAX);
     check(rt, &mut desk, reader, (usize::MAX, 1), QUEUED, 1, cut);
@@ -133,12 +134,12 @@ fn a_submission_in_steps(rt: HostRuntime) {
     }
 }
 
-/// Of a request that is not whole nothing comes.
+/// Checks that nothing comes of a request that is not whole.
 fn check_cut_off(rt: &impl Abort, desk: &mut Desk<'_>, begun: &[u8]) {
     check(rt, desk, whole(begun), AMPLE, b"", 0, begun.len());
 }
 
-/// A submission that ends before its last byte is not taken.
+/// A submission that ends before its last byte is not accepted.
 #[test]
 fn a_submission_cut_short(rt: HostRuntime) {
     let mut desk = open_desk(rt.alloc(), 1);
@@ -149,8 +150,8 @@ fn a_submission_cut_short(rt: HostRuntime) {
     drop(desk);
 }
 
-/// What a client sends, and what is written for it: nothing after a last response is answered, and no
-/// submission after it is taken.
+/// What a client sends, and what is written for it. After a last response nothing is answered, and no
+/// submission is accepted.
 const LAST: &[(&str, &str)] = &[
     (
         "GET /h HTTP/1.1\r\n\r\nPOST /_submit/1/5 HTTP/1.1\r\nHost: a\r\nContent-Length: 8\r\n\r\nrelease\n",
@@ -191,7 +192,7 @@ fn a_last_response(rt: HostRuntime) {
     drop(desk);
 }
 
-/// So many requests, of which a hundred are answered.
+/// Checks this many requests, of which a hundred are answered.
 fn check_many(rt: &impl Abort, desk: &mut Desk<'_>, count: usize, answered: u32) {
     let sent = times(rt, desk.alloc, GET, count);
     let written = pages(rt, desk.alloc, count);

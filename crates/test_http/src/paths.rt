@@ -61,8 +61,8 @@ const WANTS_GET: &Row = &(
     "method not allowed\n",
 );
 
-/// Paths of two releases, and what GET answers; HEAD answers the same without the body, and POST wants GET or
-/// HEAD.
+/// Paths of two releases, and how GET is answered. HEAD is answered the same without the body. POST is
+/// refused, as the methods are GET and HEAD.
 const PATHS: &[(&str, &Row)] = &[
     ("/h", LATER),
     ("/@1/h", FIRST),
@@ -86,7 +86,7 @@ const PATHS: &[(&str, &Row)] = &[
     ("/_ticket/4294967295/18446744073709551615", UNKNOWN),
 ];
 
-/// Paths that are kept for the server, and name nothing, whatever the method.
+/// Paths that are kept for the server and name nothing, whatever the method.
 const RESERVED: &[&str] = &[
     "/_",
     "/_submit",
@@ -117,7 +117,7 @@ const RESERVED: &[&str] = &[
     "/@18446744073709551616/",
 ];
 
-/// The method, with a space after it, and the path have this response, or its head alone.
+/// Checks that the method (with a space after it) and the path have this response, or only its head.
 fn check_method(
     rt: &impl Abort,
     desk: &mut Desk<'_>,
@@ -130,7 +130,7 @@ fn check_method(
     responds(rt, desk, request.as_str(), row, to_head);
 }
 
-/// What GET and HEAD have.
+/// Checks GET and HEAD.
 fn check_asked(rt: &impl Abort, desk: &mut Desk<'_>, path: &str, asked: &Row) {
     check_method(rt, desk, "GET ", path, asked, false);
     check_method(rt, desk, "HEAD ", path, asked, true);
@@ -172,7 +172,7 @@ fn each_path_with_each_method(rt: HostRuntime) {
     drop(desk);
 }
 
-/// Paths where there is no release, and what GET answers where each ticket has a receipt.
+/// Paths if there is no release, and how GET is answered if each ticket has a receipt.
 const UNRELEASED: &[(&str, &Row)] = &[
     ("/h", NO_RELEASE),
     ("/@0/h", NO_RELEASE),

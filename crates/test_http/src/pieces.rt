@@ -1,4 +1,4 @@
-//! Requests in pieces, and what each comes to, in a line of text.
+//! Requests in pieces, and the result of each, in a line of text.
 
 use crate::comparing::same;
 use crate::reading::Reading;
@@ -16,7 +16,7 @@ fn name_of(method: Method) -> &'static str {
     }
 }
 
-/// The body, and what stands before it.
+/// The body, and the word before it.
 fn body_text(asked: &Request) -> (&'static str, &str) {
     if asked.body.is_empty() {
         return ("", "");
@@ -46,8 +46,8 @@ fn fault_text(fault: &ReadFault) -> &'static str {
     }
 }
 
-/// What came, in words: `GET /h`, with its body where it has one, and whether it closes its connection;
-/// `400`, or `400 to HEAD`; or the end of the input.
+/// The result in words: `GET /h`, with its body if it has one, and whether it closes its connection; `400`,
+/// or `400 to HEAD`; or the end of the input.
 fn text_of(alloc: Global, came: &Incoming) -> Result<String, AllocError> {
     match came {
         Incoming::Request(asked) => request_text(alloc, asked),
@@ -56,7 +56,7 @@ fn text_of(alloc: Global, came: &Incoming) -> Result<String, AllocError> {
     }
 }
 
-/// The same of what is let go of.
+/// The same, and drops the result.
 fn told(rt: &impl Abort, alloc: Global, came: Incoming) -> String {
     let text = text_of(alloc, &came).expect(rt, "memory");
     drop(came);
@@ -67,12 +67,12 @@ fn words(rt: &impl Abort, alloc: Global, words: &str) -> String {
     String::from_str(alloc, words).expect(rt, "memory")
 }
 
-/// What came is that, in a row of these words and number.
+/// Checks the result of the row with these words and this number.
 fn is_so(rt: &impl Abort, came: &str, expected: &str, of: (&str, usize)) {
     same(rt, (of, came), (of, expected));
 }
 
-/// The fault that a reading of so many bytes is, or of none, where it failed.
+/// The fault of a read that returned this many bytes, or of one that failed (`None`).
 fn fault_of(read: Option<usize>) -> Option<&'static str> {
     match read {
         Some(0) => Some("ended early"),
@@ -81,7 +81,7 @@ fn fault_of(read: Option<usize>) -> Option<&'static str> {
     }
 }
 
-/// A reader that gives bytes in pieces, and the reading of them.
+/// A reader that gives bytes in pieces, and the progress of reading them.
 #[derive(Drop)]
 pub(crate) struct Input<'a> {
     alloc: Global,
@@ -90,7 +90,7 @@ pub(crate) struct Input<'a> {
 }
 
 impl<'a> Input<'a> {
-    /// A first piece and then pieces of one size, and no call that fails.
+    /// A first piece and then pieces of one size. No call fails.
     pub(crate) fn in_pieces(
         alloc: Global,
         bytes: &'a [u8],
@@ -114,7 +114,7 @@ impl Input<'_> {
         request(self.alloc, &mut self.reader, &mut self.reading.inbox)
     }
 
-    /// The next request in words, read at once.
+    /// The next request in words, read by one call.
     fn read(&mut self, rt: &impl Abort) -> String {
         match self.request() {
             Ok(came) => told(rt, self.alloc, came),
@@ -122,13 +122,13 @@ impl Input<'_> {
         }
     }
 
-    /// The next request comes to that, read at once.
+    /// Checks the next request, read by one call.
     pub(crate) fn comes(&mut self, rt: &impl Abort, expected: &str, of: (&str, usize)) {
         let text = self.read(rt);
         is_so(rt, text.as_str(), expected, of);
     }
 
-    /// The fault with which a further reading ends, if it does.
+    /// Reads once more: the fault, if that ends the reading.
     fn read_more(&mut self) -> Option<&'static str> {
         if self.reading.inbox.is_full() {
             return Some("full and not whole");
@@ -139,7 +139,8 @@ impl Input<'_> {
         }
     }
 
-    /// Reads on in what is held, and then once more: in words what came, if it is whole, or the fault.
+    /// Reads on in what is held, and then once from the reader. Returns the result in words if it is whole,
+    /// or the fault.
     fn step(&mut self, rt: &impl Abort) -> Option<String> {
         let came = self.reading.go_on(self.alloc).expect(rt, "memory");
         match came {
@@ -148,7 +149,7 @@ impl Input<'_> {
         }
     }
 
-    /// The same fault in words.
+    /// Reads once more: the fault in words, if that ends the reading.
     fn fault(&mut self, rt: &impl Abort) -> Option<String> {
         match self.read_more() {
             Some(fault) => Some(words(rt, self.alloc, fault)),
@@ -156,7 +157,7 @@ impl Input<'_> {
         }
     }
 
-    /// The next request in words, read on after each reading.
+    /// The next request in words, read step by step.
     fn read_on(&mut self, rt: &impl Abort) -> String {
         for _ in 0..1_000_000 {
             if let Some(text) = self.step(rt) {
@@ -166,18 +167,18 @@ impl Input<'_> {
         words(rt, self.alloc, "no end")
     }
 
-    /// The next request comes to that, read on after each reading.
+    /// Checks the next request, read step by step.
     fn comes_so_far(&mut self, rt: &impl Abort, expected: &str, of: (&str, usize)) {
         let text = self.read_on(rt);
         is_so(rt, text.as_str(), expected, of);
     }
 
-    /// So many calls failed.
+    /// Checks how many calls failed.
     pub(crate) fn failed(&self, rt: &impl Abort, failures: u64) {
         same(rt, self.reader.failures(), failures);
     }
 
-    /// That is left: what is held, and then what the reader has.
+    /// Checks what is left: what is held, and then what the reader has.
     fn leaves(self, rt: &impl Abort, left: &str) {
         let Input {
             alloc: _,
@@ -192,10 +193,10 @@ impl Input<'_> {
     }
 }
 
-/// A part of a request, and what the request comes to.
+/// A part of a request, and the result of the request.
 pub(crate) type Row = (&'static str, &'static str);
 
-/// Bytes, what they come to, and what is left after them, if they are a request.
+/// Bytes, their result, and what is left after them if they are a request.
 #[derive(Drop)]
 struct Case<'a> {
     text: &'a str,
@@ -204,13 +205,13 @@ struct Case<'a> {
 }
 
 impl Case<'_> {
-    /// Whether it comes to a request: that begins with the method.
+    /// Whether the result is a request: then it begins with the method.
     fn is_asked(&self) -> bool {
         matches!(self.expected.as_bytes().first(), Some(b'A'..=b'Z'))
     }
 }
 
-/// No call failed, and so much is left.
+/// Checks that no call failed, and what is left.
 fn check_behind(rt: &impl Abort, case: &Case<'_>, input: Input<'_>) {
     input.failed(rt, 0);
     if case.is_asked() {
@@ -220,14 +221,14 @@ fn check_behind(rt: &impl Abort, case: &Case<'_>, input: Input<'_>) {
     }
 }
 
-/// Reads a request at once that comes in pieces of one size.
+/// Checks one call that reads a request in pieces of one size.
 fn check_pieces(rt: &impl Abort, alloc: Global, case: &Case<'_>, piece: usize) {
     let mut input = Input::in_pieces(alloc, case.text.as_bytes(), piece, piece);
     input.comes(rt, case.expected, (case.text, piece));
     check_behind(rt, case, input);
 }
 
-/// Reads on in one that comes in a first piece and then in pieces of one size.
+/// Checks reading step by step, with a first piece and then pieces of one size.
 fn check_so_far(rt: &impl Abort, alloc: Global, case: &Case<'_>, first: usize, piece: usize) {
     let mut input = Input::in_pieces(alloc, case.text.as_bytes(), first, piece);
     input.comes_so_far(rt, case.expected, (case.text, first));
@@ -238,22 +239,22 @@ const SHORT_PIECES: &[usize] = &[1, 2, 7, 999];
 
 const LONG_PIECES: &[usize] = &[500, 700, 8_191, 99_999];
 
-/// In pieces of each of these sizes.
+/// Checks pieces of each of these sizes.
 fn check_sizes(rt: &impl Abort, alloc: Global, case: &Case<'_>, sizes: &[usize]) {
     for &piece in sizes {
         check_pieces(rt, alloc, case, piece);
     }
 }
 
-/// Cut into two at each place.
+/// Checks each cut into two.
 fn check_cuts(rt: &impl Abort, alloc: Global, case: &Case<'_>) {
     for first in 0..=case.text.len() {
         check_so_far(rt, alloc, case, first, usize::MAX);
     }
 }
 
-/// In pieces of several sizes, read at once; cut into two at each place, and byte by byte, read on. A long
-/// one comes in longer pieces, and is cut in the middle alone.
+/// Checks one call with pieces of several sizes; and reading step by step, cut into two at each place and
+/// byte by byte. A long request comes in longer pieces, and is cut only in the middle.
 fn check_case(rt: &impl Abort, alloc: Global, case: &Case<'_>) {
     if case.text.len() < 1_000 {
         check_sizes(rt, alloc, case, SHORT_PIECES);
@@ -266,7 +267,7 @@ fn check_case(rt: &impl Abort, alloc: Global, case: &Case<'_>) {
     }
 }
 
-/// What follows a request that comes to that: nothing where it ends early, else more bytes.
+/// What follows a request with that result: nothing if it ends early, else more bytes.
 fn behind(expected: &str) -> &'static str {
     if expected == "ended early" {
         return "";
@@ -274,7 +275,7 @@ fn behind(expected: &str) -> &'static str {
     "next"
 }
 
-/// Reads one request in every way. More bytes that follow it are left after a request.
+/// Checks one request in every way. The bytes that follow a request are left.
 pub(crate) fn check_one(rt: &impl Abort, alloc: Global, bytes: &str, expected: &str) {
     let left = behind(expected);
     let text = joined(rt, alloc, bytes, left, "");
@@ -286,7 +287,7 @@ pub(crate) fn check_one(rt: &impl Abort, alloc: Global, bytes: &str, expected: &
     check_case(rt, alloc, &case);
 }
 
-/// Reads the request of each row, which stands between these bytes.
+/// Checks the request of each row, between these bytes.
 pub(crate) fn check(rt: &impl Abort, alloc: Global, before: &str, rows: &[Row], behind: &str) {
     for &(part, expected) in rows {
         let bytes = joined(rt, alloc, before, part, behind);

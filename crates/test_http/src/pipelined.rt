@@ -8,15 +8,15 @@ use std::alloc::Global;
 use std::process::Abort;
 use test_ends::{Pieces, in_pieces, whole};
 
-/// A submission, and questions for its receipt and for pages.
+/// A submission, and requests for its receipt and for pages.
 const FIVE: &[u8] =
     b"POST /_submit/1/5 HTTP/1.1\r\nHost: a\r\nContent-Length: 8\r\n\r\nrelease\nGET /_ticket/1/5 HTTP/1.1\r\nHost: a\r\n\r\nGET /h HTTP/1.1\r\nHost: a\r\n\r\nHEAD /h HTTP/1.1\r\nHost: a\r\n\r\nGET /h HTTP/1.1\r\nHost: a\r\nConnection: close\r\n\r\n";
 
 const FIVE_ANSWERS: &[u8] =
     b"HTTP/1.1 202 Accepted\r\nContent-Type: text/plain; charset=utf-8\r\nContent-Length: 7\r\n\r\nqueued\nHTTP/1.1 404 Not Found\r\nContent-Type: text/plain; charset=utf-8\r\nContent-Length: 8\r\n\r\nunknown\nHTTP/1.1 200 OK\r\nContent-Type: text/html; charset=utf-8\r\nContent-Length: 3\r\n\r\nHi\nHTTP/1.1 200 OK\r\nContent-Type: text/html; charset=utf-8\r\nContent-Length: 3\r\n\r\nHTTP/1.1 200 OK\r\nContent-Type: text/html; charset=utf-8\r\nContent-Length: 3\r\nConnection: close\r\n\r\nHi\n";
 
-/// A client of a desk of its own sends its bytes so, and takes the responses so: it gets these bytes. One
-/// submission is made.
+/// Checks a client with a service of its own, which sends and receives its bytes so: it receives these bytes.
+/// One submission is made.
 fn check(
     rt: &impl Abort,
     alloc: Global,
@@ -34,7 +34,7 @@ fn check(
     drop(desk);
 }
 
-/// Cut into two after each byte, and in pieces of each size.
+/// Checks each cut into two, and pieces of each size.
 fn check_cuts(rt: &impl Abort, alloc: Global, sent: &[u8], written: &[u8]) {
     for cut in 0..=sent.len() {
         let halves = in_pieces(sent, cut, usize::MAX, usize::MAX);
@@ -44,7 +44,7 @@ fn check_cuts(rt: &impl Abort, alloc: Global, sent: &[u8], written: &[u8]) {
     }
 }
 
-/// Written by pieces of each size.
+/// Checks writers that take pieces of each size.
 fn check_writers(rt: &impl Abort, alloc: Global, sent: &[u8], written: &[u8]) {
     for piece in 1..=written.len() {
         let room = (usize::MAX, piece);
@@ -58,8 +58,8 @@ fn five_requests_at_once(rt: HostRuntime) {
     check_writers(&rt, rt.alloc(), FIVE, FIVE_ANSWERS);
 }
 
-/// How long a page is (its response has 77 bytes more, and the digits of its length), how many questions for
-/// it come at once, how many of them are answered before anything is written, and how many bytes wait then.
+/// How long a page is (its response has 77 bytes more, and the digits of its length); how many requests for
+/// it come at once; how many of them are answered before anything is written; and how many bytes wait then.
 const WAITS: &[(usize, usize, u32, usize)] = &[
     (3, 1, 1, 81),
     (3, 99, 99, 8_019),
@@ -74,7 +74,7 @@ const WAITS: &[(usize, usize, u32, usize)] = &[
     (1_000, 17, 16, 17_296),
 ];
 
-/// So many wait of these requests, which come at once.
+/// Checks how many of these requests are answered, and how many bytes wait, if they come at once.
 fn check_waits(rt: &impl Abort, desk: &mut Desk<'_>, count: usize, answered: u32, bytes: usize) {
     let sent = times(rt, desk.alloc, GET, count);
     let is = waits(desk, whole(sent.as_bytes()));

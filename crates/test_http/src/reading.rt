@@ -1,9 +1,9 @@
-//! A reading of a request that goes on as its pieces come.
+//! The reading of a request, which goes on as its pieces come.
 use http_read::{Counted, Inbox, Incoming, Progress, advance};
 use httparse::spans::HeaderSpan;
 use std::alloc::{AllocError, Global};
 
-/// Where the reading stands, what came and is not yet used, and room for where field lines lie.
+/// How far the request is read, what came and is not yet used, and room for where field lines are.
 #[derive(Drop)]
 pub(crate) struct Reading {
     pub progress: Progress,
@@ -20,7 +20,7 @@ impl Reading {
         }
     }
 
-    /// Whether there was room for a piece, it was taken whole, and no memory refused.
+    /// Whether there was room for a piece, it was taken whole, and no allocation failed.
     pub(crate) fn takes(&mut self, piece: &[u8]) -> bool {
         if self.inbox.is_full() {
             return false;
@@ -31,8 +31,8 @@ impl Reading {
         }
     }
 
-    /// Reads on in what the inbox holds. The call's contract is long: here it stands alone, and nothing is
-    /// promised of it.
+    /// Reads on in what the inbox holds. The call has a long contract. So this function has the call by
+    /// itself, and promises nothing of it.
     pub(crate) fn go_on(&mut self, alloc: Global) -> Result<Option<Incoming>, AllocError> {
         advance(alloc, &mut self.progress, &mut self.inbox, &mut self.spans)
     }

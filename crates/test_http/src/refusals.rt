@@ -1,9 +1,10 @@
-//! Requests and connections with one growth refused: a call answers as ever, or memory was refused, nothing
-//! was written and nothing taken, and then another connection with the same bytes is answered as ever.
+//! Requests and connections with one failed allocation. A call returns as ever; or the allocation failed,
+//! nothing was written and nothing accepted, and then another connection with the same bytes is answered as
+//! ever.
 //!
-//! All is tried twice, since a second program, `tools/gate/refuse-growths`, runs each test once for each
-//! growth of its memory and refuses that one: the first try meets it, the second does not. Alone a test is
-//! refused nothing.
+//! Each test tries twice. The reason is a second program, `tools/gate/refuse-growths`: it runs each test once
+//! for each allocation, and makes that one fail. The first try meets the failure, the second does not.
+//! Without that program no allocation of a test fails.
 use crate::comparing::{ensure, same};
 use crate::desk::{Desk, open_desk, took};
 use crate::ends::{Connection, served};
@@ -15,7 +16,7 @@ use std::alloc::Global;
 use std::process::Abort;
 use test_ends::whole;
 
-/// A request, and what its path and its body are.
+/// A request, its path and its body.
 type Posted = (&'static [u8], &'static str, &'static [u8]);
 
 /// A POST, by chunks and by a stated length.
@@ -32,7 +33,7 @@ const POSTED: &[Posted] = &[
     ),
 ];
 
-/// The same in pieces: with a trailer, and with a longer body.
+/// The same in pieces, with a trailer and with a longer body.
 const IN_PIECES: &[Posted] = &[
     (
         b"POST http://a/%68 HTTP/1.1\r\nHost: a\r\nTransfer-Encoding: chunked\r\n\r\n4\r\nrele\r\n0\r\nA: b\r\n\r\n",
@@ -59,7 +60,7 @@ fn is_posted(came: Incoming, row: &Posted) -> bool {
     is_posted
 }
 
-/// Whether it is refused for its many field lines.
+/// Whether it is refused for too many field lines.
 fn is_too_many(came: Incoming) -> bool {
     let is_refused = matches!(
         &came,
@@ -76,7 +77,7 @@ fn asked(alloc: Global, bytes: &[u8]) -> Result<Incoming, ReadFault> {
     request(alloc, &mut Counted::new(bytes), &mut Inbox::new(alloc))
 }
 
-/// What comes of these bytes, asked once more where memory was refused.
+/// The result for these bytes. If an allocation failed, the call is made once more.
 fn asked_again(rt: &impl Abort, alloc: Global, bytes: &[u8]) -> Incoming {
     match asked(alloc, bytes) {
         Ok(came) => came,
@@ -101,7 +102,8 @@ fn requests(rt: HostRuntime) {
     ensure(&rt, is_too_many(came), 431);
 }
 
-/// Where memory is refused the same call is made once more, and goes on where the first one stood.
+/// Reads on. If an allocation failed, the same call is made once more, and goes on where the first one
+/// stopped.
 fn go_on_again(rt: &impl Abort, alloc: Global, reading: &mut Reading) -> Option<Incoming> {
     match reading.go_on(alloc) {
         Ok(came) => came,
@@ -109,7 +111,7 @@ fn go_on_again(rt: &impl Abort, alloc: Global, reading: &mut Reading) -> Option<
     }
 }
 
-/// Whether what a further piece brings is the row's request, if it brings one.
+/// Whether the next piece brings the row's request. `None` if it brings nothing.
 fn brings(
     rt: &impl Abort,
     alloc: Global,
@@ -143,8 +145,8 @@ fn requests_in_pieces(rt: HostRuntime) {
     }
 }
 
-/// What is sent, the response that may stand where memory was refused for the next one, and the end of what
-/// is written.
+/// What is sent; the response that may be written if an allocation failed for the next one; and the end of
+/// what is written.
 type Row = (&'static str, &'static str, &'static str);
 
 const ROWS: &[Row] = &[
@@ -169,27 +171,28 @@ const ROWS: &[Row] = &[
     ),
 ];
 
-/// Queued, or already there where the writer was refused memory before.
+/// Queued, or already there if the first try failed as it was written.
 const SUBMISSION: &Row = &(
     "POST /_submit/1/5 HTTP/1.1\r\nHost: a\r\nContent-Length: 8\r\n\r\nrelease\n",
     "",
     "",
 );
 
-/// Two requests on a connection: at a refusal nothing was written, or the first response whole.
+/// Two requests on a connection. After a failed allocation nothing is written, or only the whole first
+/// response.
 const TWO: &Row = &(
     "GET /h HTTP/1.1\r\nHost: a\r\n\r\nPOST /_submit/1/5 HTTP/1.1\r\nHost: a\r\nContent-Length: 8\r\n\r\nrelease\n",
     "HTTP/1.1 200 OK\r\nContent-Type: text/html; charset=utf-8\r\nContent-Length: 3\r\n\r\nHi\n",
     "",
 );
 
-/// Whether nothing was taken, and nothing but that response written.
+/// Whether nothing was accepted, and nothing except that response was written.
 fn is_untouched(desk: &Desk<'_>, written: &[u8], first: &str) -> bool {
     (written.is_empty() || written == first.as_bytes()) && desk.values.is_empty()
 }
 
-/// Whether memory was refused, before anything was taken and but for that response written, or the writer's
-/// own growth was.
+/// Whether an allocation failed before anything was accepted, with at most that response written; or the
+/// writer itself failed to allocate.
 fn is_refused(rt: &impl Abort, desk: &Desk<'_>, run: &Connection, row: &Row) -> bool {
     match run.result {
         Err(ServeFault::OutOfMemory) => {
@@ -209,7 +212,7 @@ fn is_answer(written: &[u8], row: &Row) -> bool {
     written.starts_with(row.1.as_bytes()) && written.ends_with(row.2.as_bytes())
 }
 
-/// Whether a connection was answered as ever. Else memory was refused.
+/// Whether a connection was answered as ever. Otherwise an allocation failed.
 fn answers(rt: &impl Abort, desk: &mut Desk<'_>, row: &Row) -> bool {
     let run = served(desk, whole(row.0.as_bytes()));
     let is_answered = !is_refused(rt, desk, &run, row);
@@ -221,7 +224,7 @@ fn answers(rt: &impl Abort, desk: &mut Desk<'_>, row: &Row) -> bool {
     is_answered
 }
 
-/// A connection is answered, or else the next one.
+/// Checks that a connection is answered, or else the next one.
 fn tried_again(rt: &impl Abort, desk: &mut Desk<'_>, row: &Row) {
     ensure(rt, answers(rt, desk, row) || answers(rt, desk, row), row.0);
 }
@@ -246,8 +249,8 @@ fn two_requests(rt: HostRuntime) {
     drop(desk);
 }
 
-/// Whether memory was refused to a connection in steps, before anything was taken and but for that response
-/// written, and it is over; or the writer's own growth was.
+/// Whether a connection in steps is over as an allocation failed, before anything was accepted and with at
+/// most that response written; or the writer itself failed to allocate.
 fn is_ended(rt: &impl Abort, desk: &Desk<'_>, run: &Run, row: &Row) -> bool {
     ensure(rt, run.is_over, row.0);
     if run.result.is_err() {
@@ -257,7 +260,7 @@ fn is_ended(rt: &impl Abort, desk: &Desk<'_>, run: &Run, row: &Row) -> bool {
     run.is_broken
 }
 
-/// Whether a connection in steps was answered as ever. Else memory was refused.
+/// Whether a connection in steps was answered as ever. Otherwise an allocation failed.
 fn answers_in_steps(rt: &impl Abort, desk: &mut Desk<'_>, row: &Row) -> bool {
     let run = led(desk, whole(row.0.as_bytes()), AMPLE);
     let is_answered = !is_ended(rt, desk, &run, row);
@@ -268,7 +271,7 @@ fn answers_in_steps(rt: &impl Abort, desk: &mut Desk<'_>, row: &Row) -> bool {
     is_answered
 }
 
-/// A connection is answered, or else the next one.
+/// Checks that a connection in steps is answered, or else the next one.
 fn led_again(rt: &impl Abort, desk: &mut Desk<'_>, row: &Row) {
     let is_answered = answers_in_steps(rt, desk, row) || answers_in_steps(rt, desk, row);
     ensure(rt, is_answered, row.0);

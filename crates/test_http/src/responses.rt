@@ -23,7 +23,7 @@ const ROWS: &[(&str, &str)] = &[
     ("GET /%68?x HTTP/1.1\r\nHost: a\r\n\r\n", PAGE),
     ("HEAD /%68?x HTTP/1.1\r\nHost: a\r\n\r\n", PAGE_HEAD),
     ("GET /h HTTP/1.0\r\n\r\n", LAST_PAGE),
-    // What follows the last request is left.
+    // What follows the last request is ignored.
     (
         "GET /h HTTP/1.1\r\nHost: a\r\nConnection: close\r\n\r\nGET /lost HTTP/1.1\r\n",
         LAST_PAGE,
@@ -50,7 +50,7 @@ const TOO_LARGE: &Row = &("413 Content Too Large", PLAIN, "", CLOSE, "too large\
 
 const BEGUN: &str = "GET /h HTTP/1.1\r\nHost: a\r\n";
 
-/// What stands after `BEGUN`, and its refusal.
+/// What comes after `BEGUN`, and its refusal.
 const REFUSED: &[(&str, &Row)] = &[
     ("Transfer-Encoding: gzip\r\n\r\n", BAD_REQUEST),
     ("Transfer-Encoding: gzip, chunked\r\n\r\n", NOT_IMPLEMENTED),
@@ -62,7 +62,7 @@ const REFUSED: &[(&str, &Row)] = &[
     ("Transfer-Encoding: chunked\r\n\r\n9C41\r\n", TOO_LARGE),
 ];
 
-/// Heads that are too long, for 414 and for 431: what stands before 8,188 letters and after them, and the
+/// Heads that are too long, for 414 and for 431: what comes before 8,188 letters and after them, and the
 /// refusal.
 const LONG: &[(&str, &str, Row)] = &[
     (
@@ -83,7 +83,7 @@ const LONG: &[(&str, &str, Row)] = &[
     ),
 ];
 
-/// A request in three parts is refused so.
+/// Checks the refusal of a request in three parts.
 fn check_refused(
     rt: &impl Abort,
     desk: &mut Desk<'_>,

@@ -1,4 +1,4 @@
-//! A request cut in every way, cut off after each byte, and over readers and writers that fail at each place.
+//! A request cut in every way, cut off after each byte, with readers and writers that fail at each place.
 use crate::comparing::same;
 use crate::desk::{Desk, open_desk};
 use crate::each_end::{
@@ -11,7 +11,8 @@ const REQUEST: &[u8] = b"GET /%68?x HTTP/1.1\r\nHost: a\r\n\r\n";
 const RESPONSE: &[u8] =
     b"HTTP/1.1 200 OK\r\nContent-Type: text/html; charset=utf-8\r\nContent-Length: 3\r\n\r\nHi\n";
 
-/// One that fails after the last byte is a fault within the next request: the response stands.
+/// Checks each cut, each early end, and each reader that fails. If the reader fails after the last byte, that
+/// is a fault of the next request: the response was written.
 fn check_readers(rt: &impl Abort, desk: &mut Desk<'_>, request: &[u8], response: &[u8]) {
     let nothing: &[u8] = b"";
     answers_in_pieces(rt, desk, request, response);

@@ -1,5 +1,5 @@
-//! Several requests on a connection: responses one after another, when it is closed, and what stands after a
-//! fault.
+//! Several requests on a connection: responses one after another, when the connection is closed, and what is
+//! written before a fault.
 use crate::comparing::same;
 use crate::desk::{Desk, open_desk, took};
 use crate::each_end::{answers_in_pieces, ends_early, fails_to_read, fails_to_write};
@@ -14,11 +14,11 @@ use test_ends::Sink;
 
 pub(crate) const GET: &str = "GET /h HTTP/1.1\r\nHost: a\r\n\r\n";
 
-/// A request, and a last one.
+/// A request, and a last request.
 pub(crate) const BOTH: &[u8] =
     b"GET /h HTTP/1.1\r\nHost: a\r\n\r\nGET /old HTTP/1.1\r\nHost: a\r\nConnection: close\r\n\r\n";
 
-/// The page, and one that moved.
+/// The page, and a page that moved.
 pub(crate) const BOTH_PAGES: &[u8] =
     b"HTTP/1.1 200 OK\r\nContent-Type: text/html; charset=utf-8\r\nContent-Length: 3\r\n\r\nHi\nHTTP/1.1 301 Moved Permanently\r\nContent-Type: text/plain; charset=utf-8\r\nLocation: /h\r\nContent-Length: 12\r\nConnection: close\r\n\r\nmoved to /h\n";
 
@@ -29,7 +29,7 @@ const TWO_SUBMISSIONS: &[u8] =
 const BOTH_QUEUED: &[u8] =
     b"HTTP/1.1 202 Accepted\r\nContent-Type: text/plain; charset=utf-8\r\nContent-Length: 7\r\n\r\nqueued\nHTTP/1.1 202 Accepted\r\nContent-Type: text/plain; charset=utf-8\r\nContent-Length: 7\r\n\r\nqueued\n";
 
-/// What a client sends, what is written, and how it ends: a further request after each closing one isn't
+/// What a client sends, what is written, and how the connection ends. A request after a closing one is not
 /// answered.
 const ENDS: &[(&str, &str, Outcome)] = &[
     ("", "", Err(ServeFault::EndedEarly)),
@@ -54,7 +54,7 @@ const ENDS: &[(&str, &str, Outcome)] = &[
         BAD,
         Ok(()),
     ),
-    // A submission after a refused request, and one that is refused itself, are not taken.
+    // A submission after a refused request, and a refused submission, are not accepted.
     (
         "GET /h HTTP/1.1\r\n\r\nPOST /_submit/1/5 HTTP/1.1\r\nHost: a\r\nContent-Length: 8\r\n\r\nrelease\n",
         BAD,
@@ -67,7 +67,7 @@ const ENDS: &[(&str, &str, Outcome)] = &[
     ),
 ];
 
-/// Cut off after each byte: what was whole is answered.
+/// Checks each end after a byte: each whole request is answered.
 fn check_short(rt: &impl Abort, desk: &mut Desk<'_>) {
     let (one, page) = (GET.as_bytes(), PAGE.as_bytes());
     ends_early(rt, desk, one, 0, b"");
@@ -75,7 +75,7 @@ fn check_short(rt: &impl Abort, desk: &mut Desk<'_>) {
     ends_early(rt, desk, BOTH, one.len() + 1, page);
 }
 
-/// Readers and writers that fail, the readers in place of each byte of the second request.
+/// Checks readers and writers that fail. The readers fail at each byte of the second request.
 fn check_broken(rt: &impl Abort, desk: &mut Desk<'_>) {
     fails_to_read(rt, desk, BOTH, GET.len(), PAGE.as_bytes());
     fails_to_write(rt, desk, BOTH, BOTH_PAGES);
@@ -105,7 +105,7 @@ fn where_it_ends(rt: HostRuntime) {
     drop(desk);
 }
 
-/// What is written for so many requests: the hundredth response is the last.
+/// What is written for this many requests: the hundredth response is the last.
 pub(crate) fn pages(rt: &impl Abort, alloc: Global, count: usize) -> String {
     let pages = times(rt, alloc, PAGE, count.min(99));
     let last = if count < 100 { "" } else { LAST_PAGE };
@@ -115,7 +115,7 @@ pub(crate) fn pages(rt: &impl Abort, alloc: Global, count: usize) -> String {
 /// How many requests are sent, and how many of them are answered.
 pub(crate) const COUNTS: &[(usize, u32)] = &[(1, 1), (99, 99), (100, 100), (101, 100), (250, 100)];
 
-/// So many requests, and what is written for the first hundred of them.
+/// Checks this many requests, and what is written for the first hundred of them.
 fn check_many(rt: &impl Abort, desk: &mut Desk<'_>, count: usize) {
     let sent = times(rt, desk.alloc, GET, count);
     let pages = pages(rt, desk.alloc, count);
@@ -139,7 +139,7 @@ fn two_submissions(rt: HostRuntime) {
     drop(desk);
 }
 
-/// A connection that is served by turns.
+/// A client whose requests are served one at a time.
 #[derive(Drop)]
 struct Client<'a> {
     reader: Counted<&'a [u8]>,
@@ -147,7 +147,7 @@ struct Client<'a> {
     inbox: Inbox,
 }
 
-/// One that sends these bytes, and whose writer takes all.
+/// A client that sends these bytes, and whose writer takes all.
 fn sending(alloc: Global, bytes: &[u8]) -> Client<'_> {
     Client {
         reader: Counted::new(bytes),
@@ -168,7 +168,7 @@ impl Client<'_> {
         )
     }
 
-    /// The turn after so many answers comes to that.
+    /// Checks how the connection goes on after the next request, if this many were answered before.
     fn turns(&mut self, rt: &impl Abort, desk: &mut Desk<'_>, answered: u32, next: Next) {
         same(rt, self.turn(desk, answered), Ok(next));
     }
@@ -188,7 +188,7 @@ const TWO_REQUESTS: &[u8] = b"GET /h HTTP/1.1\r\nHost: a\r\n\r\nGET /h HTTP/1.1\
 const TWO_PAGES: &[u8] =
     b"HTTP/1.1 200 OK\r\nContent-Type: text/html; charset=utf-8\r\nContent-Length: 3\r\n\r\nHi\nHTTP/1.1 200 OK\r\nContent-Type: text/html; charset=utf-8\r\nContent-Length: 3\r\n\r\nHi\n";
 
-/// A request of each at a time: what one sent ahead waits in its inbox.
+/// Serves one request of each client at a time: what a client sent ahead waits in its inbox.
 fn by_turns(rt: &impl Abort, one: &mut Client<'_>, other: &mut Client<'_>, desk: &mut Desk<'_>) {
     for answered in 0..2 {
         one.turns(rt, desk, answered, Next::Stays);
@@ -197,7 +197,7 @@ fn by_turns(rt: &impl Abort, one: &mut Client<'_>, other: &mut Client<'_>, desk:
     one.turns(rt, desk, 2, Next::Ended);
 }
 
-/// The client got both pages.
+/// Checks that the client received both pages.
 fn got_both(rt: &impl Abort, client: Client<'_>) {
     same(rt, client.into_written().as_slice(), TWO_PAGES);
 }

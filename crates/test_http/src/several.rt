@@ -4,7 +4,7 @@ use crate::texts::{joined, times};
 use std::alloc::Global;
 use std::process::Abort;
 
-/// The requests of these bytes, in pieces of one size, come to these, one after another, and no call fails.
+/// Checks the requests of these bytes, one after another, in pieces of one size. No call fails.
 fn check_each(rt: &impl Abort, alloc: Global, bytes: &[u8], piece: usize, expected: &[&str]) {
     let mut input = Input::in_pieces(alloc, bytes, piece, piece);
     for one in expected {
@@ -33,7 +33,7 @@ fn one_behind_another(rt: HostRuntime) {
     }
 }
 
-/// Sixty requests that come to that, and then the end.
+/// Checks sixty requests with that result, and then the end.
 fn check_many(rt: &impl Abort, alloc: Global, bytes: &[u8], piece: usize, expected: &str) {
     let mut input = Input::in_pieces(alloc, bytes, piece, piece);
     for _ in 0..60 {
@@ -45,7 +45,7 @@ fn check_many(rt: &impl Abort, alloc: Global, bytes: &[u8], piece: usize, expect
 
 const PIECES: &[usize] = &[1, 100, 1_049, 5_000, 16_384, 99_999];
 
-/// Requests with that body of a thousand bytes, in pieces of several sizes.
+/// Checks requests with that body of a thousand bytes, in pieces of several sizes.
 fn check_long(rt: &impl Abort, alloc: Global, connection: &str, body: &str) {
     let expected = joined(rt, alloc, "POST / with ", body, "");
     for &piece in PIECES {
@@ -55,7 +55,7 @@ fn check_long(rt: &impl Abort, alloc: Global, connection: &str, body: &str) {
 
 const HEAD: &str = "POST / HTTP/1.1\r\nHost: a\r\nContent-Length: 1000\r\n\r\n";
 
-/// Many times what an inbox has room for.
+/// Many times as many bytes as an inbox has room for.
 #[test]
 fn a_long_connection(rt: HostRuntime) {
     let alloc = rt.alloc();
@@ -71,7 +71,7 @@ const BOTH: &[u8] =
 
 const FIRST: usize = 51;
 
-/// Both come at once, the second cut off after so many bytes.
+/// Checks both requests if they come at once, and the second is cut off after some bytes.
 fn check_end(rt: &impl Abort, alloc: Global, bytes: &[u8], second: &str) {
     check_each(rt, alloc, bytes, usize::MAX, &["POST /a with abc", second]);
 }
@@ -85,7 +85,7 @@ fn the_second_cut_off(rt: HostRuntime) {
     check_end(&rt, rt.alloc(), BOTH, "POST /b with de");
 }
 
-/// Line breaks after a request begin another one.
+/// After a request, line breaks begin the next request.
 #[test]
 fn line_breaks_alone(rt: HostRuntime) {
     check_each(&rt, rt.alloc(), b"", 1, &["ended"]);

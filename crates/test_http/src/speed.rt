@@ -10,7 +10,7 @@ use test_ends::whole;
 const REQUEST: &str =
     "GET /h HTTP/1.1\r\nHost: localhost\r\nUser-Agent: bench\r\nAccept: */*\r\n\r\n";
 
-/// Whether what is sent is answered, by more than so many bytes.
+/// Whether what is sent is answered, by more than `size` bytes.
 fn writes_more(desk: &mut Desk<'_>, sent: &str, size: usize) -> bool {
     let run = served(desk, whole(sent.as_bytes()));
     let writes_more = run.result.is_ok() && run.written.len() > size;
@@ -18,7 +18,7 @@ fn writes_more(desk: &mut Desk<'_>, sent: &str, size: usize) -> bool {
     writes_more
 }
 
-/// So many connections that send this are each answered by more than so many bytes.
+/// Checks `count` connections: each sends this and is answered by more than `size` bytes.
 fn check(rt: &impl Abort, desk: &mut Desk<'_>, sent: &str, size: usize, count: u32) {
     for i in 0..count {
         ensure(rt, writes_more(desk, sent, size), i);

@@ -1,14 +1,14 @@
-//! Where the reading of a request stands after each of its pieces.
+//! How far the reading of a request is after each of its pieces.
 use crate::comparing::{ensure, same};
 use crate::reading::Reading;
 use http_read::{Awaited, Incoming};
 use std::alloc::Global;
 use std::process::Abort;
 
-/// A piece that makes no request whole, and where the reading stands after it: `None` within a head.
+/// A piece that makes no request whole, and what the reading awaits after it: `None` within a head.
 type Row = (&'static str, Option<Awaited>);
 
-/// Whether what came is the request of that body, or nothing.
+/// Whether the request with that body came, or nothing if `body` is `None`.
 fn is_due(came: Option<Incoming>, body: Option<&[u8]>) -> bool {
     let is_due = match &came {
         Some(Incoming::Request(asked)) => body == Some(asked.body.as_slice()),
@@ -19,7 +19,7 @@ fn is_due(came: Option<Incoming>, body: Option<&[u8]>) -> bool {
     is_due
 }
 
-/// Whether a piece makes the request of that body whole, or none.
+/// Whether a piece makes the request with that body whole, or no request if `body` is `None`.
 fn brings(alloc: Global, reading: &mut Reading, piece: &[u8], body: Option<&[u8]>) -> bool {
     if !reading.takes(piece) {
         return false;
@@ -30,7 +30,7 @@ fn brings(alloc: Global, reading: &mut Reading, piece: &[u8], body: Option<&[u8]
     }
 }
 
-/// Gives a piece that makes no request whole.
+/// Checks a piece that makes no request whole.
 fn check_piece(rt: &impl Abort, alloc: Global, reading: &mut Reading, row: &Row) {
     ensure(rt, brings(alloc, reading, row.0.as_bytes(), None), row.0);
     let awaits = reading.progress.awaits();
@@ -43,8 +43,8 @@ fn check_pieces(rt: &impl Abort, alloc: Global, reading: &mut Reading, rows: &[R
     }
 }
 
-/// Gives the pieces one after another, and then a last one, which makes the request of that body whole and
-/// leaves so much.
+/// Checks the pieces one after another, and then a last piece: it makes the request with that body whole, and
+/// leaves these bytes.
 fn check_awaited(
     rt: &impl Abort,
     alloc: Global,

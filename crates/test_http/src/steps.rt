@@ -1,4 +1,4 @@
-//! A connection that is served by passes, over ends of which every second call comes too early.
+//! A connection that is served in passes. Every second call of its reader and of its writer comes too early.
 ghost use Rattle.std.specs.Prelude.{◌≡◌};
 
 use crate::desk::Desk;
@@ -9,7 +9,7 @@ use std::io;
 use std::io::{ErrorKind, Read, Write};
 use test_ends::{Pieces, Sink};
 
-/// A reader or a writer of which every second call comes too early.
+/// A reader or a writer. Every second call comes too early.
 #[derive(Drop)]
 struct Early<T> {
     inner: T,
@@ -51,7 +51,7 @@ impl<W: Write> Write for Early<W> {
     }
 }
 
-/// A connection, and what its bytes come and go by.
+/// A connection with its reader and its writer.
 #[derive(Drop)]
 struct Client<'a> {
     connection: Connection,
@@ -88,7 +88,7 @@ fn connected(alloc: Global, reader: Pieces<'_>, room: Room) -> Client<'_> {
 }
 
 impl Client<'_> {
-    /// Reads once, if bytes may be read. A reading that was refused memory is made again.
+    /// Reads once, if bytes may be read. If an allocation fails, it reads again.
     fn hear(&mut self) -> Result<(), AllocError> {
         if self.connection.may_read() && self.connection.read_from(&mut self.reader).is_err() {
             let _ = self.connection.read_from(&mut self.reader)?;
@@ -122,7 +122,7 @@ impl Client<'_> {
         Ok(())
     }
 
-    /// Passes until the connection is over, or 20,000.
+    /// Makes passes until the connection is over, 20,000 at most.
     fn passes(&mut self, desk: &mut Desk<'_>) -> Result<(), AllocError> {
         for _ in 0..20_000 {
             if self.connection.is_done() {
@@ -143,7 +143,7 @@ impl Client<'_> {
         Ok(())
     }
 
-    /// Writes what waits. If memory was refused, it waits still.
+    /// Writes what waits. After a failed allocation it still waits.
     fn finish(&mut self) {
         for _ in 0..20_000 {
             self.tell();
@@ -172,7 +172,7 @@ impl Client<'_> {
 /// What came of a connection.
 #[derive(Drop)]
 pub(crate) struct Run {
-    /// Whether an answer was refused memory.
+    /// Whether an allocation failed as a request was answered.
     pub result: Result<(), AllocError>,
     pub is_over: bool,
     /// Whether the writer failed.
@@ -189,7 +189,7 @@ pub(crate) fn led(desk: &mut Desk<'_>, reader: Pieces<'_>, room: Room) -> Run {
 }
 
 /// How many requests are answered before anything is written, and how many bytes the first write then has.
-/// `None` if memory was refused.
+/// `None` if an allocation failed.
 pub(crate) fn waits(desk: &mut Desk<'_>, reader: Pieces<'_>) -> Option<(u32, usize)> {
     let mut client = connected(desk.alloc, reader, AMPLE);
     let end = client.writes_once(desk);

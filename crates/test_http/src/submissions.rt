@@ -1,4 +1,4 @@
-//! Submissions: each outcome, and what is taken where the response is lost.
+//! Submissions: each outcome, and what is accepted if the response is lost.
 use crate::comparing::same;
 use crate::desk::{Desk, Mood, open_desk, took};
 use crate::each_end::ends_early;
@@ -27,7 +27,7 @@ const STOPPED: &Row = &("503 Service Unavailable", PLAIN, "", "", "stopped\n");
 const THERE: &[u8] =
     b"HTTP/1.1 200 OK\r\nContent-Type: text/plain; charset=utf-8\r\nContent-Length: 8\r\n\r\nalready\n";
 
-/// Texts that are no command, and the line of their fault.
+/// Texts that are not commands, and the line that reports their fault.
 const FAULTY: &[(&str, &str)] = &[
     ("", "2 Form\n"),
     ("release", "2 Form\n"),
@@ -66,7 +66,7 @@ fn check_text(rt: &impl Abort, desk: &mut Desk<'_>, text: &str, row: &Row) {
     responds(rt, desk, request.as_str(), row, false);
 }
 
-/// The text is no command, as the line says.
+/// Checks that the text is not a command, with this line.
 fn check_fault(rt: &impl Abort, desk: &mut Desk<'_>, text: &str, line: &'static str) {
     let row = ("422 Unprocessable Content", PLAIN, "", "", line);
     check_text(rt, desk, text, &row);
@@ -95,7 +95,7 @@ fn texts_that_are_no_command(rt: HostRuntime) {
     drop(desk);
 }
 
-/// By pieces of each size the value is queued once, and then already there.
+/// Checks pieces of each size: the value is queued once, and then already there.
 fn check_pieces(rt: &impl Abort, desk: &mut Desk<'_>, bytes: &[u8]) {
     answers(rt, desk, bytes, 1, 1, QUEUED);
     let there = THERE;
@@ -105,13 +105,13 @@ fn check_pieces(rt: &impl Abort, desk: &mut Desk<'_>, bytes: &[u8]) {
     took(rt, desk, 1);
 }
 
-/// In that mood a release is met so.
+/// Checks the response to a release in that mood.
 fn check_mood(rt: &impl Abort, desk: &mut Desk<'_>, mood: Mood, row: &Row) {
     desk.mood = mood;
     check_text(rt, desk, "release\n", row);
 }
 
-/// Busy and stopped take nothing, but what is there stays there.
+/// Checks that a busy and a stopped service accept nothing, and that what is there stays there.
 fn check_outcomes(rt: &impl Abort, desk: &mut Desk<'_>) {
     check_mood(rt, desk, Mood::Stopped, STOPPED);
     check_mood(rt, desk, Mood::Busy, BUSY);
@@ -121,7 +121,7 @@ fn check_outcomes(rt: &impl Abort, desk: &mut Desk<'_>) {
     check_mood(rt, desk, Mood::Busy, ALREADY);
 }
 
-/// The first value that was taken, if one was.
+/// The first value that was accepted, if there is one.
 fn first<'a>(desk: &'a Desk<'_>) -> &'a [u8] {
     match desk.values.get(0) {
         Some(value) => value.as_slice(),
@@ -137,7 +137,7 @@ fn outcomes(rt: HostRuntime) {
     drop(desk);
 }
 
-/// Where memory was missing none was taken, and a request cut short takes none.
+/// Checks that nothing is accepted if an allocation fails, or if the request is cut short.
 fn check_not_taken(rt: &impl Abort, desk: &mut Desk<'_>, bytes: &[u8]) {
     let nothing: &[u8] = b"";
     desk.mood = Mood::Starved;
@@ -148,7 +148,7 @@ fn check_not_taken(rt: &impl Abort, desk: &mut Desk<'_>, bytes: &[u8]) {
     took(rt, desk, 0);
 }
 
-/// A submission stays taken where its response can't be written.
+/// A submission stays accepted if its response cannot be written.
 #[test]
 fn lost_responses(rt: HostRuntime) {
     let mut desk = open_desk(rt.alloc(), 1);

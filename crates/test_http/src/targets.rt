@@ -22,7 +22,7 @@ const TARGETS: &[Row] = &[
     ("/%zz%41", "GET /%zzA"),
     ("/a%20b", "GET /a b"),
     ("/+", "GET /+"),
-    // Bytes that are no UTF-8.
+    // Bytes that are not UTF-8.
     ("/%ff", "400"),
     ("/%C3", "400"),
     // In absolute form.
@@ -33,7 +33,7 @@ const TARGETS: &[Row] = &[
     ("http://a?b", "GET /"),
     ("http://", "400"),
     ("http:///b", "400"),
-    // `*` asks for no path, a host alone neither, nor a path without its slash.
+    // `*` asks for no path, and neither does a host by itself, nor a path without its slash.
     ("*", "400"),
     ("/*", "GET /*"),
     ("http://a/*", "GET /*"),
@@ -41,7 +41,7 @@ const TARGETS: &[Row] = &[
     ("a", "400"),
     ("a:80", "400"),
     ("a/b", "400"),
-    // No fragment, no byte but visible ASCII, none that no target has.
+    // No fragment, no byte except visible ASCII, no byte that no target has.
     ("/a#b", "400"),
     ("/é", "400"),
     ("/\x7f", "400"),

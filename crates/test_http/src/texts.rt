@@ -13,7 +13,7 @@ pub(crate) fn joined(
     [before, part, behind].join(alloc, "").expect(rt, "memory")
 }
 
-/// A text so many times.
+/// This text, repeated.
 pub(crate) fn times(rt: &impl Abort, alloc: Global, part: &str, count: usize) -> String {
     part.repeat(alloc, count).expect(rt, "memory")
 }

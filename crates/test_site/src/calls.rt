@@ -1,5 +1,5 @@
-//! Each public call of the crates below that takes memory, once with ample memory. What a call made is lent
-//! to what looks at it.
+//! Each public call of the crates below that allocates, once with ample memory. What a call made is lent to
+//! what looks at it.
 use crate::comparing::{ensure, same};
 use command::{Action, CommandFault, fault_line, read, write};
 use context::{Data, DataFault, Frame, resolve};
@@ -55,7 +55,7 @@ fn parsing(rt: HostRuntime) {
     same(&rt, nodes.as_str(), NODES);
 }
 
-/// What a name is found to be.
+/// What the data has under a name.
 fn found(data: &Data, name: &str) -> &'static str {
     match resolve(&Frame { data, below: None }, name) {
         Some(Data::Int(8)) => "8",
@@ -81,7 +81,7 @@ fn reading_data(rt: HostRuntime) {
     check_names(&rt, &data);
 }
 
-/// So many lists within one another.
+/// Nested lists: this many, each in the one before it.
 fn nested(alloc: Global, lists: usize) -> Result<Vec<u8>, AllocError> {
     let mut json = Vec::new(alloc);
     json.resize(lists, b'[')?;
@@ -96,7 +96,7 @@ fn items_of(data: &Data) -> usize {
     }
 }
 
-/// How many items the outermost of so many lists has.
+/// How many items the outermost of nested lists has.
 fn outermost(rt: &impl Abort, alloc: Global, lists: usize) -> Result<usize, DataFault> {
     let json = nested(alloc, lists).expect(rt, "memory");
     let data = Data::from_json(alloc, &json)?;

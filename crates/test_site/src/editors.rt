@@ -1,8 +1,8 @@
-//! What an editor works with, as tables: folders, their faults, pages, static copies and what is not shown of
-//! them; another generator's pages; files of ledgers and plans; what is asked of nodes, answers in pieces,
-//! paces, what is told meanwhile, standings, releases that a log does not tell, what a release may show of a
-//! folder; publications (`interruptions` of a ledger, `flights` into a group) that are cut off and go on with
-//! another folder; each growth refused.
+//! Tables of what an editor works with: folders, their faults, pages, static copies and what no page shows of
+//! them; another generator's pages; files of ledgers and plans; requests to nodes, answers in pieces, paces,
+//! reports of progress, standings, releases that a log does not have, what a release may show of a folder;
+//! publications (`interruptions` of a ledger, `flights` into a group) that are cut off and go on with another
+//! folder. Each allocation is made to fail once.
 
 mod answers;
 mod copies;

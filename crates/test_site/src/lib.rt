@@ -1,6 +1,6 @@
-//! Rows of sites: each call of the crates from the scanner to the releases once with ample memory, a site by
-//! its values, releases by number, maps whose copies share; and each call with one growth refused. `editors`
-//! has what an editor works with.
+//! Tables of sites: each call of the crates from the scanner to the releases once with ample memory, a site
+//! by its values, releases by number, maps whose copies share; and each call with one failed allocation.
+//! `editors` has what an editor works with.
 #![tactic(auto)]
 
 #[cfg(test)]

@@ -1,5 +1,5 @@
-//! Maps whose copies share. A map is lent to what changes it: what owns one is proved to let it go at each of
-//! its ends.
+//! Maps whose copies share. A map is lent to what changes it: a function that owns a map is proved to drop it
+//! at each of its ends.
 use crate::comparing::{ensure, same};
 use shared_map::SharedMap;
 use std::alloc::{AllocError, Global};
@@ -88,7 +88,7 @@ fn check_heights(rt: &impl Abort, alloc: Global, map: &mut Numbers) {
     has(rt, map, "3999", None);
 }
 
-// Names in order, then most of them away: the tree stays low.
+// Adds names in order, then removes most of them: the tree stays low.
 #[test]
 fn trees_stay_low(rt: HostRuntime) {
     check_heights(&rt, rt.alloc(), &mut SharedMap::new(rt.alloc()));

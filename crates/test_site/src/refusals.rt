@@ -1,9 +1,9 @@
-//! Each call with one growth refused: it answers as ever, or that memory was refused, and then the next try
-//! answers as ever. A try tells whether it found what it should, and lets go of that.
+//! Each call with one failed allocation: it returns as ever; or it reports the failure, and then the next try
+//! returns as ever. A try returns whether it found what it should, and drops that.
 //!
-//! All is tried twice, since a second program, `tools/gate/refuse-growths`, runs each test once for each
-//! growth of its memory and refuses that one: the first try meets it, the second does not. Alone a test is
-//! refused nothing.
+//! Each test tries twice. The reason is a second program, `tools/gate/refuse-growths`: it runs each test once
+//! for each allocation, and makes that one fail. The first try meets the failure, the second does not.
+//! Without that program no allocation of a test fails.
 use crate::calls::read_as;
 use crate::comparing::{ensure, same};
 use crate::releases::{V1, feed, new_releases, shows};
@@ -30,7 +30,7 @@ fn has_nodes(alloc: Global) -> Result<bool, TemplateFault> {
     Ok(!parse(alloc, TEMPLATE)?.nodes().is_empty())
 }
 
-/// Whether a try was not refused.
+/// Whether a try did not fail. Such a try must have found what it should.
 fn is_found(rt: &impl Abort, tried: Result<bool, TemplateFault>) -> bool {
     match tried {
         Ok(found) => {
@@ -144,7 +144,7 @@ fn length_of(site: &Site) -> Option<usize> {
     }
 }
 
-/// The site takes the value, and answers so. Where memory was refused it is as before.
+/// Checks that the site takes the value with this answer. If an allocation failed, the site is as before.
 fn take(rt: &impl Abort, site: &mut Site, value: &[u8], text: &str, applied: Applied) {
     let before = length_of(site);
     let mut answer = site.apply(value);
@@ -198,7 +198,7 @@ fn lengths(releases: &Releases) -> (u64, usize) {
     (releases.newest(), releases.len())
 }
 
-/// The releases take the value, and answer so. Where memory was refused they are as before.
+/// Checks that the releases take the value with this answer. If an allocation failed, they are as before.
 fn fed(rt: &impl Abort, releases: &mut Releases, value: &[u8], text: &str, applied: Applied) {
     let before = lengths(releases);
     let mut answer = feed(releases, value);
@@ -209,7 +209,7 @@ fn fed(rt: &impl Abort, releases: &mut Releases, value: &[u8], text: &str, appli
     is_answered(rt, text, answer, applied);
 }
 
-/// Whether the first release shows the first template.
+/// Checks that the first release shows the first template.
 fn show(rt: &impl Abort, releases: &Releases) {
     let is_right = match shows(releases, 1, "/", V1) {
         Err(AnswerFault::OutOfMemory) => shows(releases, 1, "/", V1).expect(rt, "a page"),

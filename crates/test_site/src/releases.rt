@@ -1,5 +1,5 @@
-//! Releases by number: what each value is answered with, the newest, pages and receipts. Releases are boxed,
-//! since a box is let go of in one step, and lent to what is told of them.
+//! Releases by number: the answer to each value, the newest, pages and receipts. Releases are boxed, since a
+//! box is dropped in one step, and lent to what checks them.
 use crate::comparing::{ensure, same};
 use crate::rows::{COMMANDS, Row, is_answered, ticket, value_of};
 use content::Applied;
@@ -8,12 +8,12 @@ use site_ids::MAX_INSTANCE;
 use std::alloc::{AllocError, Global};
 use std::process::Abort;
 
-/// Of no values. None where memory was refused.
+/// Releases of no values. None if an allocation failed.
 pub(crate) fn new_releases(alloc: Global) -> Option<Box<Releases>> {
     Box::new(alloc, Releases::new(alloc)).ok()
 }
 
-/// Feeds a value, where there is an instance left for it.
+/// Feeds a value, if there is an instance left for it.
 pub(crate) fn feed(releases: &mut Releases, value: &[u8]) -> Result<Applied, AllocError> {
     if releases.len() >= MAX_INSTANCE as usize {
         return Err(AllocError);
@@ -21,7 +21,7 @@ pub(crate) fn feed(releases: &mut Releases, value: &[u8]) -> Result<Applied, All
     releases.feed(value)
 }
 
-/// The values of these commands are answered so.
+/// Checks the answers to the values of these commands.
 fn feed_all(rt: &impl Abort, alloc: Global, releases: &mut Releases, rows: &[Row]) {
     for &(number, text, applied) in rows {
         let value = value_of(rt, alloc, number, text);
@@ -34,7 +34,7 @@ fn receipt(releases: &Releases, number: u64) -> Option<u32> {
     Some(instance.number())
 }
 
-/// The status of a page, its body, and where it moved to, if it did.
+/// The status of a page, its body, and the path that it moved to, if it did.
 pub(crate) type Page = (u16, &'static str, Option<&'static str>);
 
 /// Whether the page of a release at a path is this one.
@@ -143,7 +143,7 @@ fn values_that_are_no_commands(rt: HostRuntime) {
     no_commands(&rt, rt.alloc(), &mut releases);
 }
 
-/// A page that moved, in releases of which the second has a route for its path and the third no more the
+/// A page that moved, in three releases: the second has a route for its path, and the third no longer has the
 /// redirect.
 const MOVES: &[Row] = &[
     (1, "put redirect /old /h\n", Applied::Changed),

@@ -1,4 +1,4 @@
-//! Commands as rows: their values, and what they are answered with.
+//! Commands as rows: their values, and the answers to them.
 use crate::comparing::same;
 use command::write;
 use content::Applied;
@@ -6,7 +6,7 @@ use site_ids::Ticket;
 use std::alloc::{AllocError, Global};
 use std::process::Abort;
 
-/// A command by its ticket's number, and what it is answered with.
+/// A command by its ticket's number, and the answer to it.
 pub(crate) type Row = (u64, &'static str, Applied);
 
 /// The sixth repeats the first one's ticket.
@@ -29,7 +29,7 @@ pub(crate) fn value_of(rt: &impl Abort, alloc: Global, number: u64, text: &str) 
     write(alloc, ticket(number), text.as_bytes()).expect(rt, "memory")
 }
 
-/// A command was answered so.
+/// Checks the answer to a command.
 pub(crate) fn is_answered(
     rt: &impl Abort,
     text: &str,

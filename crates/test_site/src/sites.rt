@@ -1,5 +1,5 @@
-//! A site, by the values that it takes, and a copy of it. A site is boxed, since a box is let go of in one
-//! step, and lent to what is told of it.
+//! A site, by the values that it takes, and a copy of it. A site is boxed, since a box is dropped in one
+//! step, and lent to what checks it.
 use crate::comparing::ensure;
 use crate::rows::{Row, is_answered, value_of};
 use content::{Applied, Site};
@@ -8,17 +8,17 @@ use mustache_parse::{Node, Template};
 use std::alloc::Global;
 use std::process::Abort;
 
-/// Of no values. None where memory was refused.
+/// A site of no values. None if an allocation failed.
 pub(crate) fn new_site(alloc: Global) -> Option<Box<Site>> {
     Box::new(alloc, Site::new(alloc)).ok()
 }
 
-/// None where memory was refused.
+/// None if an allocation failed.
 pub(crate) fn copied(alloc: Global, site: &Site) -> Option<Box<Site>> {
     Box::new(alloc, site.copy().ok()?).ok()
 }
 
-/// These commands are answered so.
+/// Checks the answers to these commands.
 fn take_all(rt: &impl Abort, alloc: Global, site: &mut Site, rows: &[Row]) {
     for &(number, text, applied) in rows {
         let value = value_of(rt, alloc, number, text);
@@ -54,13 +54,13 @@ fn check_has(rt: &impl Abort, site: &Site, rows: &[Has]) {
     }
 }
 
-/// These commands are answered so, and leave that.
+/// Checks the answers to these commands, and what they leave.
 fn check_step(rt: &impl Abort, alloc: Global, site: &mut Site, rows: &[Row], left: &[Has]) {
     take_all(rt, alloc, site, rows);
     check_has(rt, site, left);
 }
 
-/// The template begins with that text.
+/// Whether the template begins with that text.
 fn prints(template: &Template, first: &str) -> bool {
     matches!(template.nodes().first(), Some(Node::Text { text, .. }) if text.as_str() == first)
 }
@@ -89,7 +89,7 @@ fn answers_of_values(rt: HostRuntime) {
     check_answers(&rt, rt.alloc(), &mut site);
 }
 
-/// Puts what greets.
+/// Puts a greeting.
 const GREETING: &[Row] = &[
     (1, "put template t\nHello, {{subject}}!\n", Applied::Changed),
     (2, "put partial t\n{{x}}", Applied::Changed),
@@ -102,7 +102,7 @@ const GREETING: &[Row] = &[
     (10, "put redirect /old /new\n", Applied::Changed),
 ];
 
-/// The template ends with that variable.
+/// Whether the template ends with that variable.
 fn names(template: &Template, last: &str) -> bool {
     matches!(template.nodes().last(), Some(Node::Variable(name)) if name.as_str() == last)
 }
@@ -115,7 +115,7 @@ fn has_two(data: Option<&Data>) -> bool {
     matches!(data, Some(Data::Hash(members)) if members.len() == 2)
 }
 
-/// Three data, the last of them with two members.
+/// Whether there are three data, the last of them with two members.
 fn has_three(data: Option<&Data>) -> bool {
     matches!(data, Some(Data::List(items)) if items.len() == 3 && has_two(items.last()))
 }
@@ -134,7 +134,7 @@ fn check_greeting(rt: &impl Abort, site: &Site) {
     ensure(rt, shows && is_routed(site) && leads(site, "/new"), shows);
 }
 
-/// Names of one kind are none of another.
+/// A name of one kind is not a name of another.
 const OTHER_KINDS: &[Has] = &[
     (Kind::Template, "d", false),
     (Kind::Data, "t", false),
@@ -209,7 +209,7 @@ const LEFT_IN_SITE: &[Has] = &[
 
 const LEFT_IN_COPY: &[Has] = &[(Kind::Data, "d", false), (Kind::Redirect, "/old", false)];
 
-/// Either of two takes its own commands.
+/// Checks that a site and its copy each take only their own commands.
 fn check_copy(rt: &impl Abort, alloc: Global, site: &mut Site, copy: &mut Site) {
     take_all(rt, alloc, site, OF_SITE);
     check_greeting(rt, copy);

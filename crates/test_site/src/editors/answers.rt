@@ -7,7 +7,7 @@ use std::alloc::{AllocError, Global};
 use std::process::Abort;
 use test_ends::Pieces;
 
-/// What a connection gives, and what its answers are told as, the last with the reason why none follows.
+/// What a connection gives, and the lines that report its answers. The last line says why no answer follows.
 const CONNECTIONS: &[(&str, &str)] = &[
     (
         "HTTP/1.1 200 OK\r\nContent-Type: text/plain; charset=utf-8\r\nContent-Length: 2\r\n\r\n7\n",
@@ -17,7 +17,7 @@ const CONNECTIONS: &[(&str, &str)] = &[
         "HTTP/1.1 202 Accepted\r\ncontent-length:7\r\n\r\nqueued\nHTTP/1.1 503 Service Unavailable\r\nContent-Length: 5\r\nConnection: close\r\n\r\nbusy\n",
         "202 queued\n; 503 busy\n; ended",
     ),
-    // The first of two lengths counts; no body is one.
+    // The first of two lengths counts; an empty body is a body.
     (
         "HTTP/1.1 404 Not Found\r\nContent-Length: 0\r\nContent-Length: 5\r\n\r\nHTTP/1.1 200\r\nContent-Length: 1\r\n\r\na",
         "404 ; 200 a; ended",
@@ -25,8 +25,7 @@ const CONNECTIONS: &[(&str, &str)] = &[
     ("", "ended"),
     ("HTTP/1.1 200 OK\r\nContent-Length: 2\r\n\r\n7", "ended"),
     ("HTTP/1.1 200 OK\r\nContent-Le", "ended"),
-    // Without a length, with another coding, with a length that is none or too large, and what is no
-    // response.
+    // No length, another coding, a length that is invalid or too large, and what is not a response.
     ("HTTP/1.1 200 OK\r\n\r\nall", "no answer"),
     (
         "HTTP/1.1 200 OK\r\nTransfer-Encoding: chunked\r\n\r\n0\r\n\r\n",
@@ -80,7 +79,7 @@ fn tell(rt: &impl Abort, alloc: Global, text: &mut String, answer: &NodeAnswer) 
     text.push_str(told.as_str()).expect(rt, "memory");
 }
 
-/// Tells the next answer, or why none follows: whether one may follow.
+/// Prints the next answer, or why none follows. Returns whether one may follow.
 fn tell_next(
     rt: &impl Abort,
     alloc: Global,
@@ -100,7 +99,7 @@ fn tell_next(
     }
 }
 
-/// Answers of a connection until none follows, at most ten.
+/// Prints answers of a connection until none follows, at most ten.
 fn tell_all(
     rt: &impl Abort,
     alloc: Global,
@@ -115,7 +114,7 @@ fn tell_all(
     }
 }
 
-/// A connection's answers are told so.
+/// Checks how a connection's answers are reported.
 fn is_told(rt: &impl Abort, alloc: Global, reader: &mut Counted<Pieces<'_>>, wanted: &str) {
     let mut text = String::new(alloc);
     tell_all(rt, alloc, reader, &mut Feed::new(alloc), &mut text);
@@ -142,7 +141,7 @@ fn connections(rt: HostRuntime) {
     }
 }
 
-/// After how many good reads of a byte the connection fails, and what is told.
+/// After how many good reads of one byte the connection fails, and what is reported.
 const FAILING: &[(usize, &str)] = &[
     (0, "failed"),
     (35, "failed"),

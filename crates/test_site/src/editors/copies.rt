@@ -3,7 +3,7 @@ use crate::comparing::ensure;
 use editor_folder::{Copies, NoCopy};
 use std::process::Abort;
 
-/// Paths in order, and the file that each takes.
+/// Paths in order, and the file of each.
 const TAKEN: &[(&str, Result<&str, NoCopy>)] = &[
     ("/", Ok("index.html")),
     ("/a", Ok("a/index.html")),

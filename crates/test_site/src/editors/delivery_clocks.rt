@@ -3,7 +3,8 @@ use crate::comparing::ensure;
 use editor_plan::{Came, DeliveryClock, Step, answers_within};
 use std::process::Abort;
 
-/// What exchanges came to, when each ended, and how it goes on, where a minute may pass without a receipt.
+/// What exchanges brought, when each ended, and how the delivery goes on, if a minute may pass without a
+/// receipt.
 const STEPS: &[(Came, u64, Step)] = &[
     (Came::Answers, 1, Step::Again(2)),
     (Came::Answers, 4, Step::Again(4)),
@@ -18,7 +19,7 @@ const STEPS: &[(Came, u64, Step)] = &[
     (Came::Answers, 81, Step::Again(64)),
     (Came::Answers, 146, Step::Again(128)),
     (Came::Answers, 275, Step::Again(250)),
-    // Five seconds without a receipt, counted from the last one, and then from the turn.
+    // Five seconds without a receipt, counted from the last receipt, and then from the turn to the next node.
     (Came::Answers, 5_012, Step::Again(250)),
     (Came::Answers, 5_013, Step::Next),
     (Came::Answers, 10_012, Step::Again(2)),
@@ -46,8 +47,8 @@ fn delivery_clocks(rt: HostRuntime) {
     }
 }
 
-/// The seconds that may pass without a receipt, when an exchange begins, and how long it waits for an answer,
-/// where the last receipt came after 1,500 milliseconds.
+/// The seconds that may pass without a receipt, when an exchange begins, and how long it waits for an answer.
+/// The last receipt came after 1,500 milliseconds.
 const WAITS: &[(u64, u64, u64)] = &[
     (60, 1_500, 5_000),
     (60, 57_499, 5_000),
@@ -68,7 +69,7 @@ fn waits_for_answers(rt: HostRuntime) {
     }
 }
 
-/// With no patience it gives up after the first exchange that brought nothing.
+/// With no patience the delivery gives up after the first exchange that brought nothing.
 #[test]
 fn no_patience(rt: HostRuntime) {
     steps(
@@ -87,14 +88,14 @@ fn no_patience(rt: HostRuntime) {
     );
 }
 
-/// How often nodes were asked before, how many milliseconds passed since, how many seconds may pass, and how
-/// many milliseconds the nodes have to answer.
+/// How often nodes were asked before, how many milliseconds have passed since, how many seconds may pass, and
+/// how many milliseconds the nodes have to answer.
 const ANSWERS: &[(u64, u64, u64, u64)] = &[
     (0, 0, 60, 2_000),
     (0, 0, 0, 2_000),
     (1, 2_500, 60, 10_000),
     (2, 13_000, 60, 10_000),
-    // No longer than the seconds that are left, and a second at least.
+    // At most the seconds that are left, and at least one second.
     (1, 2_500, 3, 1_000),
     (1, 2_500, 9, 7_000),
     (5, 52_999, 60, 8_000),

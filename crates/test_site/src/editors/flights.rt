@@ -1,4 +1,5 @@
-//! Publications into a group in memory, interrupted after each answer, and gone on with by another folder.
+//! Publications into a group in memory. They are interrupted after each answer in turn, and another folder
+//! goes on.
 use crate::comparing::{ensure, same};
 use crate::editors::ledgers::{new_file, read, read_lines, save};
 use crate::editors::tickets::{Texts, has, insert, keep};
@@ -8,13 +9,13 @@ use std::alloc::{AllocError, Global};
 use std::collections::BTreeMap;
 use std::process::Abort;
 
-/// The folders: the second changes a text, takes one away and adds one.
+/// The folders: the second changes a text, removes one and adds one.
 const FIRST: &[&str] = &["put template t\nx", "put data a\n1\n", "put route /a t a\n"];
 
 const SECOND: &[&str] = &["put template t\nx", "put data a\n2\n", "put route /b t a\n"];
 
-/// A group of one node: the text of each ticket that is known, and those that wait, of which it takes few;
-/// how many answers it gives before the editor is interrupted.
+/// A group of one node: the text of each ticket that is known, the few texts that wait, and how many answers
+/// the node gives before the editor is interrupted.
 #[derive(Drop)]
 struct Town {
     known: Texts,
@@ -22,7 +23,7 @@ struct Town {
     left: usize,
 }
 
-/// So many commands wait at most.
+/// How many commands wait at most.
 const ROOM: usize = 2;
 
 impl Town {
@@ -31,7 +32,7 @@ impl Town {
         has(rt, &self.known, number, text) || has(rt, &self.waiting, number, text)
     }
 
-    /// Takes a command, and gives a status.
+    /// Takes a command, and returns the status.
     fn submit(&mut self, rt: &impl Abort, alloc: Global, number: u64, text: &str) -> u16 {
         if self.has(rt, number, text) {
             return 200;
@@ -65,7 +66,7 @@ impl Town {
         }
     }
 
-    /// The status for a command that is on its way.
+    /// The status for a sent command.
     fn submit_of(&mut self, rt: &impl Abort, alloc: Global, ledger: &Ledger, number: u64) -> u16 {
         for sent in ledger.sent() {
             if sent.number == number {
@@ -75,7 +76,7 @@ impl Town {
         panic!(rt; "asked for what is not on its way")
     }
 
-    /// The answer to what is asked, unless the editor is interrupted before.
+    /// The answer to a request, unless the editor is interrupted before.
     fn answer(&mut self, rt: &impl Abort, alloc: Global, ledger: &Ledger, ask: Ask) -> Option<u16> {
         if self.left == 0 {
             return None;
@@ -97,7 +98,7 @@ fn asks(rt: &impl Abort, alloc: Global, flight: &Flight, ledger: &Ledger) -> Vec
     flight.asks(alloc, ledger.sent()).expect(rt, "memory")
 }
 
-/// Asks each of these. Whether it was interrupted is the answer.
+/// Asks each of these. Returns whether the editor was interrupted.
 fn ask_each(
     rt: &impl Abort,
     alloc: Global,
@@ -118,7 +119,7 @@ fn ask_each(
     false
 }
 
-/// Sends what is on its way. Whether it was interrupted is the answer.
+/// Sends what is on its way. Returns whether the editor was interrupted.
 fn fly(
     rt: &impl Abort,
     alloc: Global,
@@ -143,7 +144,7 @@ fn goes_on(rt: &impl Abort, alloc: Global, ledger: &mut Ledger, folder: &[&str])
     advance(alloc, ledger, folder).expect(rt, "memory") != Stage::Done
 }
 
-/// Publishes a folder, and keeps the ledger in the file. Whether it was interrupted is the answer.
+/// Publishes a folder, and saves the ledger in the file. Returns whether the editor was interrupted.
 fn go(
     rt: &impl Abort,
     alloc: Global,
@@ -166,7 +167,7 @@ fn go(
     panic!(rt; "it comes to no end")
 }
 
-/// Publishes a folder from what the file keeps.
+/// Publishes a folder from the saved file.
 fn publish(
     rt: &impl Abort,
     alloc: Global,
@@ -178,7 +179,7 @@ fn publish(
     go(rt, alloc, town, &mut ledger, file, folder)
 }
 
-/// What the group shows: of each kind and name the last text.
+/// What the group shows: the last text of each kind and name.
 type Site = BTreeMap<String, String>;
 
 fn put(rt: &impl Abort, alloc: Global, site: &mut Site, key: String, text: &str) {
@@ -186,7 +187,7 @@ fn put(rt: &impl Abort, alloc: Global, site: &mut Site, key: String, text: &str)
     ensure(rt, site.insert(key, text).is_ok(), 0);
 }
 
-/// A command is shown that puts a name of a kind, or removes it.
+/// Applies a command that puts a name of a kind, or removes it.
 fn show(rt: &impl Abort, alloc: Global, site: &mut Site, words: (&str, &str, &str), text: &str) {
     let (verb, kind, name) = words;
     let key = format!(in alloc; "{kind} {name}").expect(rt, "memory");
@@ -226,7 +227,7 @@ fn line_of(alloc: Global, site: &Site) -> Result<String, AllocError> {
     Ok(line)
 }
 
-/// The site that the group shows is this one, in a line.
+/// Checks that the group shows this site, in a line.
 fn is_shown(rt: &impl Abort, alloc: Global, town: &Town, wanted: &str) {
     let mut site = BTreeMap::new(alloc);
     show_all(rt, alloc, &mut site, town);
@@ -234,7 +235,7 @@ fn is_shown(rt: &impl Abort, alloc: Global, town: &Town, wanted: &str) {
     same(rt, line.as_str(), wanted);
 }
 
-/// All that was given has its receipt, and is released.
+/// Checks that each given command has its receipt, and is released.
 fn is_whole(rt: &impl Abort, town: &Town, ledger: &Ledger) {
     let is_shown = ledger.is_idle() && !ledger.has_unshown();
     ensure(rt, is_shown, ledger.next());
@@ -265,7 +266,7 @@ fn interrupted(rt: HostRuntime) {
     }
 }
 
-/// What is asked, a status, and what it means.
+/// A request, a status, and what the status means.
 const HEARD: &[(Ask, u16, Heard)] = &[
     (Ask::Receipt(1), 200, Heard::Received),
     (Ask::Receipt(1), 404, Heard::Waits),

@@ -1,11 +1,12 @@
-//! What is told of a folder's faults: the file, the place, why and what to do, and the line of the formats.
+//! The report of a folder's faults: the file, the place, the reason and what to do, and the line of the
+//! formats.
 use crate::comparing::ensure;
 use crate::editors::folders::{folder, is_told};
 use editor_folder::Folder;
 use std::alloc::Global;
 use std::process::Abort;
 
-/// A file and its text, and the lines that it is told by.
+/// A file and its text, and the lines that report its faults.
 const FILES: &[(&str, &[u8], &str)] = &[
     (
         "templates/a.mustache",
@@ -192,7 +193,7 @@ fn files_by_themselves(rt: HostRuntime) {
     }
 }
 
-/// Files that are passed over.
+/// Files that are ignored.
 const PASSED: &[&str] = &[
     ".DS_Store",
     ".git/config",
@@ -213,7 +214,7 @@ fn files_that_are_passed_over(rt: HostRuntime) {
     }
 }
 
-/// Files with faults of every sort, and the lines that they are told by. Of names nothing is told, as not all
+/// Files with faults of every kind, and the lines that report them. No missing name is reported, as not all
 /// data could be read.
 const FAULTY: &[(&str, &[u8])] = &[
     ("data/b.json", b"[1,]"),
@@ -242,7 +243,7 @@ fn all_faults_of_all_files(rt: HostRuntime) {
 }
 
 /// Names that no data have, each by its part; paths that a link has to spell otherwise; redirects that lead
-/// on, in a circle, and astray.
+/// on, in a circle, and to no page.
 const WARNED: &[(&str, &[u8])] = &[
     ("data/a.json", b"{\"x\": {\"y\": [{\"z\\u0021\": 1}]}}"),
     ("partials/p.mustache", b"{{x.y.z!}}{{.}}{{&x}}"),
@@ -310,7 +311,7 @@ fn redirects_in_a_row(rt: HostRuntime) {
     is_told(&rt, rt.alloc(), &folder(&rt, rt.alloc(), CHAINS), GIVEN_UP);
 }
 
-/// How many bytes a template has, and how that is told.
+/// How many bytes a template has, and how that is reported.
 const LENGTHS: &[(usize, &str)] = &[
     (
         32_768,

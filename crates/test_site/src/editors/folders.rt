@@ -36,7 +36,7 @@ fn line(alloc: Global, finding: &Finding) -> Result<String, AllocError> {
     format!(in alloc; "{finding}\n")
 }
 
-/// What is wrong, a line each.
+/// What is wrong, one line for each finding.
 pub(crate) fn lines_of(alloc: Global, findings: &[Finding]) -> Result<String, AllocError> {
     let mut lines = String::new(alloc);
     for finding in findings {
@@ -49,13 +49,13 @@ fn folder_in(rt: &impl Abort, alloc: Global, files: &[SiteFile]) -> Folder {
     folder_of(alloc, files).expect(rt, "memory")
 }
 
-/// What these files are, where memory is not refused.
+/// The folder of these files. No allocation may fail.
 pub(crate) fn folder(rt: &impl Abort, alloc: Global, rows: &[(&str, &[u8])]) -> Folder {
     let files = files(alloc, rows).expect(rt, "memory");
     folder_in(rt, alloc, files.as_slice())
 }
 
-/// All that is wrong with a folder is told by these lines.
+/// Checks that these lines report all that is wrong with a folder.
 pub(crate) fn is_told(rt: &impl Abort, alloc: Global, folder: &Folder, lines: &str) {
     let found = lines_of(alloc, &folder.findings).expect(rt, "memory");
     same(rt, found.as_str(), lines);
@@ -72,7 +72,7 @@ fn pages(rt: &impl Abort, alloc: Global, folder: &Folder) -> Vec<Page> {
     pages_of(alloc, folder).expect(rt, "memory")
 }
 
-/// Two pages, with a partial; one that moved, and one that would have, had it no route.
+/// Two pages, with a partial; one path that moved, and one that has a redirect and a route.
 pub(crate) const SITE: &[(&str, &[u8])] = &[
     ("data/a.json", b"{\"x\":1}"),
     ("partials/p.mustache", b"<{{x}}>\n"),
@@ -122,7 +122,7 @@ fn the_commands_of_a_folder(rt: HostRuntime) {
     has_routes(&rt, &folder);
 }
 
-/// A path, the file and the line that it stands in, its status and its text.
+/// A path, the file and the line that have it, its status and its text.
 type PageRow = (&'static str, (&'static str, usize), u16, &'static str);
 
 /// The pages of that site: each path, its line, its status and its text.
@@ -151,7 +151,7 @@ fn are_pages(rt: &impl Abort, pages: &[Page]) {
     }
 }
 
-/// What is wrong with the pages of a folder is told by these lines.
+/// Checks that these lines report what is wrong with the pages of a folder.
 pub(crate) fn are_told(rt: &impl Abort, alloc: Global, folder: &Folder, lines: &str) {
     let found = page_lines(alloc, folder).expect(rt, "memory");
     same(rt, found.as_str(), lines);
@@ -164,7 +164,7 @@ fn the_pages_of_a_folder(rt: HostRuntime) {
     are_told(&rt, rt.alloc(), &folder, "");
 }
 
-/// The pages of the small site to start from, each with what stands between its head and its foot.
+/// The pages of the small site to start from, each with the text between its head and its foot.
 const BEGUN: &[(&str, &str)] = &[
     (
         "/",
@@ -213,7 +213,7 @@ fn a_small_site_to_start_from(rt: HostRuntime) {
     are_begun(&rt, pages(&rt, rt.alloc(), &folder).as_slice());
 }
 
-/// A site that calls a partial which it has not.
+/// A site that calls a partial which it does not have.
 const WITHOUT: &[(&str, &[u8])] = &[
     ("data/a.json", b"{}"),
     ("routes", b"\n/ t a\n"),

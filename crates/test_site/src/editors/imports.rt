@@ -22,7 +22,7 @@ const SHOWN: &[&str] = &[
     "caf\u{e9} \u{4f60}",
 ];
 
-/// What is shown of a template, over data of which it has each name.
+/// What a template shows, over data that has each of its names.
 fn shown(alloc: Global, template: &str) -> Result<String, AllocError> {
     let put = format!(in alloc; "put template t\n{template}")?;
     let texts = [
@@ -78,8 +78,8 @@ fn paths_of_files(rt: HostRuntime) {
     }
 }
 
-/// Pages, and the addresses to which they lead on: a page that has none, the two forms of a page that has
-/// one, and pages that say it by halves or of two addresses.
+/// Pages, and the addresses to which they lead on: a page that leads nowhere, the two forms of a page that
+/// leads on, and pages that say it only in part or of two addresses.
 const ALIASES: &[(&str, Option<&str>)] = &[
     ("<p>Hello</p>", None),
     (
@@ -132,7 +132,7 @@ fn addresses_of_pages_that_lead_on(rt: HostRuntime) {
     }
 }
 
-/// What a generator wrote: pages of three kinds, pages that lead on, files that are no pages.
+/// What a generator wrote: pages of three kinds, pages that lead on, files that are not pages.
 const PUBLIC: &[(&str, &[u8])] = &[
     ("404.html", b"none"),
     ("_draft/index.html", b"x"),
@@ -166,7 +166,8 @@ const PUBLIC: &[(&str, &[u8])] = &[
     ),
 ];
 
-/// The folder of that: what leads to no page of the site, or to a place in one, is a page.
+/// The folder of that output. A page that leads to no page of the site, or to a place within a page, stays a
+/// page.
 const FOLDER: &[(&str, &str)] = &[
     ("templates/404.mustache", "{{=^ ^=}}\nnone"),
     (
@@ -200,10 +201,10 @@ const FOLDER: &[(&str, &str)] = &[
     ),
 ];
 
-/// The pages of it that became redirects.
+/// The pages of the output that became redirects.
 const LED_ON: &[(&str, &str)] = &[("alt/index.html", "/caf\u{e9}/"), ("older/index.html", "/")];
 
-/// What is left out of it.
+/// What the import leaves out of the output.
 const LEFT_OUT: &[(&str, &str)] = &[
     (
         "_draft/index.html",
@@ -281,7 +282,7 @@ fn nothing_is_wrong_with_it(rt: HostRuntime) {
     is_whole(&rt, rt.alloc(), &folder);
 }
 
-/// A page of so many bytes, below a folder.
+/// A page of this many bytes, below a folder.
 fn long_page(alloc: Global, len: usize) -> Result<Vec<SiteFile>, AllocError> {
     let page = "x".repeat(alloc, len)?;
     files(alloc, &[("long.html", page.as_bytes())])
@@ -293,8 +294,8 @@ fn takes_page(alloc: Global, len: usize) -> Result<Option<NotTaken>, AllocError>
     Ok(made.left_out.first().map(|left| left.why))
 }
 
-/// The longest page: a value's bytes less those of its ticket, of its command's first line and of the
-/// template's.
+/// The longest page: a value's bytes, less those of its ticket, of its command's first line and of the
+/// template's first line.
 const LONGEST: usize = 32_768 - 12 - 18 - 10;
 
 #[test]

@@ -8,8 +8,8 @@ use std::alloc::Global;
 use std::collections::BTreeMap;
 use std::process::Abort;
 
-/// A group as an editor sees it: the text of each ticket that was given, and how many commands it takes
-/// before the editor is interrupted.
+/// A group as an editor sees it: the text of each given ticket, and how many commands it accepts before the
+/// editor is interrupted.
 #[derive(Drop)]
 struct Town {
     given: Texts,
@@ -17,7 +17,7 @@ struct Town {
 }
 
 impl Town {
-    /// Takes a command, if nobody is interrupted before.
+    /// Accepts a command, unless the editor is interrupted before. Returns whether it did.
     fn post(&mut self, rt: &impl Abort, alloc: Global, number: u64, text: &str) -> bool {
         if self.left == 0 {
             return false;
@@ -30,7 +30,8 @@ impl Town {
     }
 }
 
-/// Sends the first command that is on its way: its number, if nobody is interrupted before.
+/// Sends the first command that is on its way. Returns its number, or `None` if the editor is interrupted
+/// before.
 fn post_first(rt: &impl Abort, alloc: Global, town: &mut Town, ledger: &Ledger) -> Option<u64> {
     let sent = ledger.sent().first()?;
     if town.post(rt, alloc, sent.number, sent.text.as_str()) {
@@ -51,7 +52,7 @@ fn deliver(rt: &impl Abort, alloc: Global, town: &mut Town, ledger: &mut Ledger)
     true
 }
 
-/// The same, and keeps the ledger once each has its receipt.
+/// The same, and saves the ledger once each command has its receipt.
 fn send(
     rt: &impl Abort,
     alloc: Global,
@@ -66,8 +67,8 @@ fn send(
     sent
 }
 
-/// Goes on with what is on its way, and plans and sends a folder, and then its release; whether it came to
-/// its end.
+/// Goes on with what is on its way, plans and sends a folder, and then its release. Returns whether it
+/// reached the end.
 fn go_on(
     rt: &impl Abort,
     alloc: Global,
@@ -89,7 +90,7 @@ fn go_on(
     send(rt, alloc, town, ledger, file)
 }
 
-/// Publishes a folder from what the file keeps.
+/// Publishes a folder from the saved file.
 fn publish(
     rt: &impl Abort,
     alloc: Global,
@@ -102,7 +103,7 @@ fn publish(
 }
 
 /// After how many commands the first run ends, whether it was at its end, and the next ticket's number once
-/// the second folder is published: a release that was planned is sent, too.
+/// the second folder is published. A planned release is sent, too.
 const RUNS: &[(usize, bool, u64)] = &[
     (0, false, 7),
     (1, false, 7),
@@ -112,7 +113,7 @@ const RUNS: &[(usize, bool, u64)] = &[
     (5, true, 8),
 ];
 
-/// The group has what the second folder has.
+/// Checks that the group has what the second folder has.
 fn is_published(rt: &impl Abort, alloc: Global, file: &str, next: u64) {
     let ledger = read(rt, alloc, file);
     same(rt, ledger.next(), next);

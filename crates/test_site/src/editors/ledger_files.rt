@@ -5,12 +5,12 @@ use editor_ledger::{Ledger, LedgerReadFault, Message, Released};
 use std::alloc::Global;
 use std::process::Abort;
 
-/// The file of a ledger with a release of which something is said, a text that the group has, what stood
-/// before each, and two on their way.
+/// The file of a ledger: a release with a message, a text that the group has, what the group had before each,
+/// and two commands on their way.
 const FILE: &str =
     "published 2\neditor 4294967295\nnext 5\nlast_release 2\nreleased_by 31 1764057600 1\ntold 31 6\nspring\nhas 16\nput template t\nx\nwas 1 18\nremove template t\n\nwas 3 14\nremove data a\n\nwas 3 16\nput template t\nx\nsent 3 13\nput data a\n1\n\nsent 4 18\nremove template t\n\n";
 
-/// Lines that no ledger has, with the last line of their sum, and what is told of each.
+/// Lines that no ledger has (the last line with their sum is added), and the fault of each.
 const LINES: &[(&str, LedgerReadFault)] = &[
     (
         "published 2\neditor 4294967296\nnext 1\nlast_release 0\n",
@@ -62,7 +62,7 @@ const LINES: &[(&str, LedgerReadFault)] = &[
     ),
 ];
 
-/// Whole files, and what is told of each, if anything is.
+/// Whole files, and the fault of each, if it has one.
 const FILES: &[(&str, Option<LedgerReadFault>)] = &[
     ("", Some(LedgerReadFault::Line(1))),
     ("published 2", Some(LedgerReadFault::Line(1))),
@@ -83,7 +83,7 @@ const FILES: &[(&str, Option<LedgerReadFault>)] = &[
         "published 2\neditor 7\nnext 1\nlast_release 0\nend b35f22f51e38d8df4a65c44dcedd2152ecb0f1cb2b6f1aaa284a29e7f1c61008\n",
         None,
     ),
-    // that of other ones, none, one that is cut short, one in capitals, one with a line more
+    // the sum of other lines, no sum, one that is cut short, one in capitals, one with an extra line
     (
         "published 2\neditor 8\nnext 1\nlast_release 0\nend b35f22f51e38d8df4a65c44dcedd2152ecb0f1cb2b6f1aaa284a29e7f1c61008\n",
         Some(LedgerReadFault::Sum),
@@ -137,7 +137,7 @@ fn publish(rt: &impl Abort, alloc: Global, ledger: &mut Ledger) {
     say(rt, alloc, ledger);
 }
 
-/// Says something of that release.
+/// Adds a message to that release.
 fn say(rt: &impl Abort, alloc: Global, ledger: &mut Ledger) {
     let text = String::from_str(alloc, "spring").expect(rt, "memory");
     let message = Message { release: 31, text };
@@ -163,12 +163,12 @@ fn written_and_read_back(rt: HostRuntime) {
     written(&rt, rt.alloc(), &mut ledger);
 }
 
-/// The fault of a file, if it is no ledger's.
+/// The fault of a file, if it is not a ledger's.
 fn fault_of(alloc: Global, text: &str) -> Option<LedgerReadFault> {
     Ledger::read(alloc, text).err()
 }
 
-/// The fault of lines that no ledger has, with the last line of their sum.
+/// The fault of lines that no ledger has; the last line with their sum is added.
 fn fault_of_lines(rt: &impl Abort, alloc: Global, lines: &str) -> Option<LedgerReadFault> {
     let file = sealed(alloc, lines).expect(rt, "memory");
     fault_of(alloc, file.as_str())

@@ -1,11 +1,11 @@
-//! Commands by a letter each, and ledgers told by those.
+//! Commands as single letters, and ledgers written in them.
 use crate::comparing::{ensure, same};
 use editor_ledger::{Ledger, Sent};
 use sha2::{Digest, Sha256};
 use std::alloc::{AllocError, Global};
 use std::process::Abort;
 
-/// The letters of commands: a capital puts, and the small one removes what it put.
+/// The letters of commands: a capital letter puts, and the small letter removes what it put.
 const LETTERS: &str = "TABRtar!";
 
 /// The command of a letter.
@@ -42,7 +42,7 @@ pub fn commands(alloc: Global, letters: &str) -> Result<Vec<&'static str>, Alloc
     Ok(texts)
 }
 
-// Below, a ledger's steps, where memory is not refused.
+// Below are a ledger's steps. No allocation may fail in them.
 
 pub fn plan_texts(rt: &impl Abort, alloc: Global, ledger: &mut Ledger, wanted: &[&str]) {
     let is_planned = ledger.is_idle() && ledger.plan(alloc, wanted).is_ok();
@@ -68,18 +68,18 @@ pub fn spelled(rt: &impl Abort, alloc: Global, ledger: &Ledger) -> String {
     ledger.spelled(alloc).expect(rt, "memory")
 }
 
-/// Keeps it in the file.
+/// Saves the ledger in the file.
 pub fn save(rt: &impl Abort, alloc: Global, ledger: &Ledger, file: &mut String) {
     *file = spelled(rt, alloc, ledger);
 }
 
-/// The file of some lines: these, and the last one with their sum.
+/// The file of some lines: these lines, and the last one with their sum.
 pub fn sealed(alloc: Global, lines: &str) -> Result<String, AllocError> {
     let sum = hex::encode(alloc, Sha256::digest(lines.as_bytes()))?;
     format!(in alloc; "{lines}end {sum}\n")
 }
 
-/// That a ledger is kept by these lines, and the last one.
+/// Checks that a ledger is saved as these lines and the last one.
 pub fn is_spelled(rt: &impl Abort, alloc: Global, ledger: &Ledger, lines: &str) {
     let wanted = sealed(alloc, lines).expect(rt, "memory");
     same(rt, spelled(rt, alloc, ledger).as_str(), wanted.as_str());
@@ -89,7 +89,7 @@ pub fn read(rt: &impl Abort, alloc: Global, file: &str) -> Ledger {
     Ledger::read(alloc, file).expect(rt, "a ledger")
 }
 
-/// The ledger that some lines keep, with the last one.
+/// The ledger that these lines spell, with the last line added.
 pub fn read_lines(rt: &impl Abort, alloc: Global, lines: &str) -> Ledger {
     let file = sealed(alloc, lines).expect(rt, "memory");
     read(rt, alloc, file.as_str())
@@ -128,8 +128,8 @@ fn begun(alloc: Global, ledger: &Ledger) -> Result<String, AllocError> {
     format!(in alloc; "{next} {last} {has}")
 }
 
-/// A ledger in a line: the next ticket's number, that of the last release, what the group has, what is on its
-/// way.
+/// A ledger in a line: the next ticket's number, that of the last release, what the group has, and what is on
+/// its way.
 pub fn told(alloc: Global, ledger: &Ledger) -> Result<String, AllocError> {
     let mut line = begun(alloc, ledger)?;
     for sent in ledger.sent() {

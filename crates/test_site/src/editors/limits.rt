@@ -1,4 +1,4 @@
-//! Pages that are over limit: which limit they pass, and what to do.
+//! Pages that are over a limit: which limit they exceed, and what to do.
 use crate::editors::folders::{are_told, files, folder, push_file};
 use editor_folder::{SiteFile, folder_of};
 use std::alloc::{AllocError, Global};
@@ -12,7 +12,8 @@ pub(crate) const ENDLESS: &[(&str, &[u8])] = &[
     ("templates/t.mustache", b"{{>p}}"),
 ];
 
-/// A page whose partials call each other for each item of a list, which items without one find around them.
+/// A page whose partials call each other for each item of a list. Items without a list find the one around
+/// them.
 const ROUND: &[(&str, &[u8])] = &[
     ("data/a.json", b"{\"l\":[{}]}"),
     ("partials/p.mustache", b"{{#l}}{{>q}}{{/l}}"),
@@ -21,8 +22,8 @@ const ROUND: &[(&str, &[u8])] = &[
     ("templates/t.mustache", b"{{>p}}"),
 ];
 
-/// Two pages that cost too much: of one no partial nests, and of the other none so deep. Beside them one is
-/// shown, and there is a partial that calls itself, which nobody calls.
+/// Two pages that cost too much: in the first no partial nests, and in the second none nests too deep. Beside
+/// them are a page that is shown, and a partial that calls itself, which no page calls.
 const DEAR: &[(&str, &[u8])] = &[
     ("data/a.json", b"{\"x\":[1,2,3,4,5,6,7,8,9,10]}"),
     ("partials/endless.mustache", b"{{>endless}}"),
@@ -42,7 +43,7 @@ const DEAR: &[(&str, &[u8])] = &[
     ("templates/v.mustache", b"{{>p}}"),
 ];
 
-/// The files of a site, and what is told of its pages.
+/// The files of a site, and the report on its pages.
 const ROWS: &[(&[(&str, &[u8])], &str)] = &[
     (
         ENDLESS,
@@ -74,7 +75,7 @@ const OUTER: &[(&str, &[u8])] = &[
     ("templates/t.mustache", b"{{>p1}}"),
 ];
 
-/// Adds a partial of that number, which calls the one after it.
+/// Adds the partial with that number, which calls the next one.
 fn push_partial(alloc: Global, files: &mut Vec<SiteFile>, number: u32) -> Result<(), AllocError> {
     let next = number.saturating_add(1);
     let path = format!(in alloc; "partials/p{number}.mustache")?;
@@ -82,7 +83,7 @@ fn push_partial(alloc: Global, files: &mut Vec<SiteFile>, number: u32) -> Result
     push_file(alloc, files, path.as_str(), text.as_bytes())
 }
 
-/// The files of a page whose partials nest so deep.
+/// The files of a page whose partials nest this deep.
 fn nested(alloc: Global, depth: u32) -> Result<Vec<SiteFile>, AllocError> {
     let mut files = files(alloc, OUTER)?;
     for number in 1..=depth {
@@ -91,7 +92,7 @@ fn nested(alloc: Global, depth: u32) -> Result<Vec<SiteFile>, AllocError> {
     Ok(files)
 }
 
-/// How deep partials nest, and what is told of their page.
+/// How deep partials nest, and the report on their page.
 const DEPTHS: &[(u32, &str)] = &[
     (32, ""),
     (

@@ -1,4 +1,4 @@
-//! What stood at a ticket, as a table.
+//! What the group had at a ticket, as a table.
 use crate::comparing::same;
 use crate::editors::ledgers::{letters_of, plan, plan_release, read, read_lines, receive, save};
 use editor_ledger::Ledger;
@@ -6,10 +6,10 @@ use std::alloc::Global;
 use std::process::Abort;
 
 /// Folders that are published one after the other, a letter for each command; and the tickets of their
-/// releases, as plans and releases have them.
+/// releases. Plans and releases take the numbers.
 const FOLDERS: &[(&str, u64)] = &[("TA", 3), ("TB", 5), ("R", 9), ("TA", 13), ("", 16)];
 
-/// Tickets, and the letters of what stood when each was the last; those of removals are small.
+/// Tickets, and the letters of what the group had when each was the last; the letters of removals are small.
 const STOOD: &[(u64, &str)] = &[
     (0, "tar"),
     (3, "ArT"),
@@ -21,7 +21,7 @@ const STOOD: &[(u64, &str)] = &[
     (99, "rta"),
 ];
 
-/// Takes the folder as received, and releases it.
+/// Plans the folder, gives it its receipts, and releases it.
 fn publish(rt: &impl Abort, alloc: Global, ledger: &mut Ledger, letters: &str, release: u64) {
     plan(rt, alloc, ledger, letters);
     let from = ledger.next().saturating_sub(ledger.sent().len() as u64);
@@ -62,8 +62,8 @@ fn what_stood(rt: HostRuntime) {
     all_stand(&rt, rt.alloc(), &read(&rt, rt.alloc(), file.as_str()));
 }
 
-/// A file of before, which keeps nothing of what stood: its last release alone is reached, and from then on
-/// each.
+/// A file of an older version, which keeps nothing of what the group had: it reaches only its last release,
+/// and each later one.
 const BEFORE: &str = "published 2\neditor 7\nnext 9\nlast_release 8\nhas 16\nput template t\nx\n";
 
 fn reaches(rt: &impl Abort, ledger: &Ledger, wanted: (bool, bool)) {

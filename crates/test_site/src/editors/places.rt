@@ -1,4 +1,4 @@
-//! Places of texts.
+//! Places in texts.
 use crate::comparing::same;
 use editor_folder::place_of;
 

@@ -1,19 +1,19 @@
-//! What is told of a delivery while it is under way, as a table.
+//! What a delivery reports while it is under way, as a table.
 use crate::comparing::{ensure, same};
 use editor_plan::{Came, Progress};
 
-/// What exchanges came to, when each ended and how many commands were left then; how many have their
-/// receipts, where that is told, and whether it is told that none comes.
+/// What exchanges brought, when each ended and how many commands were left then; how many have their
+/// receipts, if that is reported; and whether it is reported that none comes.
 const STEPS: &[(Came, u64, usize, Option<usize>, bool)] = &[
     (Came::Answers, 5, 9, None, false),
     (Came::Receipt, 10, 7, None, false),
-    // A second after it began, and then a second after what was told last, where that is another number.
+    // A second after it began, and then a second after the last report, if the number is another one.
     (Came::Receipt, 999, 6, None, false),
     (Came::Receipt, 1_000, 6, Some(3), false),
     (Came::Receipt, 1_999, 5, None, false),
     (Came::Receipt, 2_000, 5, Some(4), false),
     (Came::Answers, 3_999, 5, None, false),
-    // Two seconds after the last receipt, and once.
+    // Two seconds after the last receipt, and only once.
     (Came::Silence, 4_000, 5, None, true),
     (Came::Answers, 9_000, 5, None, false),
     (Came::Receipt, 9_001, 4, Some(5), false),
@@ -34,7 +34,7 @@ fn progresses(rt: HostRuntime) {
 }
 
 /// How many of forty commands have their receipts, one after the other, and whether the ledger is saved then:
-/// after more than two, which are a sixteenth.
+/// after more than two new receipts, as two are a sixteenth.
 const KEPT: &[(usize, bool)] = &[
     (0, false),
     (2, false),

@@ -1,4 +1,4 @@
-//! What is asked of a node, as bytes.
+//! Requests to a node, as bytes.
 use crate::comparing::same;
 use editor_http::{Authority, Question, authority_in};
 use site_ids::Ticket;
@@ -37,8 +37,8 @@ const QUESTIONS: &[(Question<'_>, bool, &str)] = &[
         false,
         "GET /@7/ HTTP/1.1\r\nHost: 10.0.0.1:80\r\n\r\n",
     ),
-    // What a target can't have is escaped, as a node decodes it: a blank of a path, its question marks and
-    // other letters.
+    // Bytes that a target cannot have are escaped, as a node decodes them: a blank of a path, its question
+    // marks and other letters.
     (
         Question::Page(7, "/a%?\u{e9}/b.html"),
         false,
@@ -46,8 +46,8 @@ const QUESTIONS: &[(Question<'_>, bool, &str)] = &[
     ),
 ];
 
-/// Who asks where, and the field lines of that. Escapes of a login are read; a user and a password need not
-/// be ASCII, and the second and third are the examples of RFC 7617.
+/// Who asks where, and the field lines of that. Escapes in a login are decoded. A user and a password need
+/// not be ASCII. The second and third are the examples of RFC 7617.
 const LOGINS: &[(&str, &str)] = &[
     ("10.0.0.1:80", "Host: 10.0.0.1:80\r\n"),
     (

@@ -1,9 +1,9 @@
-//! Each step with one growth refused: it is taken as ever, or memory was refused, nothing has changed, and
-//! the next try takes it.
+//! Each step with one failed allocation: the step is taken as ever, or the allocation failed, nothing has
+//! changed, and the next try takes the step.
 //!
-//! All is tried twice, since a second program, `tools/gate/refuse-growths`, runs each test once for each
-//! growth of its memory and refuses that one: the first try meets it, the second does not. Alone a test is
-//! refused nothing.
+//! Each test tries twice. The reason is a second program, `tools/gate/refuse-growths`: it runs each test once
+//! for each allocation, and makes that one fail. The first try meets the failure, the second does not.
+//! Without that program no allocation of a test fails.
 use crate::comparing::{ensure, same};
 use crate::editors::folders::{SITE, files, lines_of, page_lines};
 use crate::editors::ledgers::{commands, told};
@@ -17,8 +17,7 @@ use http_read::Counted;
 use std::alloc::{AllocError, Global};
 use std::process::Abort;
 
-/// How many commands and pages a folder has, and how many bytes tell what is wrong with it and with its
-/// pages.
+/// How many commands and pages a folder has, and how many bytes the reports have on it and on its pages.
 type Counts = (usize, usize, usize, usize);
 
 fn counts(alloc: Global, folder: &Folder) -> Result<Counts, AllocError> {
@@ -38,7 +37,7 @@ fn read_counts(alloc: Global, rows: &[(&str, &[u8])]) -> Result<Counts, AllocErr
     counts(alloc, &folder)
 }
 
-/// Folders, and what is counted of each.
+/// Folders, and their counts.
 const FOLDERS: &[(&[(&str, &[u8])], Counts)] = &[(SITE, (9, 3, 105, 0)), (ENDLESS, (4, 1, 0, 317))];
 
 fn counted(rt: &impl Abort, alloc: Global, rows: &[(&str, &[u8])]) -> Counts {
@@ -185,7 +184,7 @@ fn asks(rt: &impl Abort, alloc: Global, flight: &Flight, ledger: &Ledger) -> Vec
     }
 }
 
-/// What the answer means, where it is heard once more if memory was refused: nothing has changed then.
+/// What the answer means. If an allocation failed, nothing has changed, and the answer is handled once more.
 fn means(
     rt: &impl Abort,
     flight: &mut Flight,

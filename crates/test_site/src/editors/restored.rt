@@ -5,7 +5,7 @@ use editor_folder::{Folder, SiteFile, files_of, folder_of};
 use std::alloc::{AllocError, Global};
 use std::process::Abort;
 
-/// The files that put what that site puts, without comments, and what it removes left out.
+/// The files that put what that site puts: without comments, and without what it removes.
 const FILES: &[(&str, &str)] = &[
     ("templates/t.mustache", "{{>p}}"),
     ("partials/p.mustache", "<{{x}}>\n"),

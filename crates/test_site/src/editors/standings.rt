@@ -1,18 +1,18 @@
-//! How a ledger stands to a group, by what nodes answer.
+//! How a ledger stands to a group, by the answers of nodes.
 use crate::comparing::ensure;
 use crate::editors::ledgers::read_lines;
 use editor_plan::{Standing, Witness, last_shown, last_ticket, standing_of, told_by};
 use std::alloc::Global;
 use std::process::Abort;
 
-/// Of each of three nodes the statuses for two tickets.
+/// The statuses of each of three nodes for two tickets.
 type Codes = ((u16, u16), (u16, u16), (u16, u16));
 
-/// The newest release of each of three nodes, where it says so.
+/// The newest release of each of three nodes, if it says so.
 type Newest = (Option<u64>, Option<u64>, Option<u64>);
 
-/// The last ticket; of each of three nodes the statuses for the last and for the next, 0 for silence; and how
-/// the ledger stands.
+/// The last ticket; the statuses of each of three nodes for the last ticket and for the next one, 0 for
+/// silence; and how the ledger stands.
 const STANDINGS: &[(u64, Codes, Standing)] = &[
     (0, ((404, 404), (0, 0), (0, 0)), Standing::Newest),
     (0, ((0, 0), (0, 0), (0, 0)), Standing::Unanswered),
@@ -23,7 +23,7 @@ const STANDINGS: &[(u64, Codes, Standing)] = &[
     (5, ((404, 200), (0, 0), (0, 0)), Standing::Older),
     (5, ((404, 404), (404, 404), (0, 0)), Standing::Elsewhere),
     (5, ((503, 503), (500, 500), (0, 0)), Standing::Unanswered),
-    // A node that says nothing of the next ticket confirms nothing.
+    // A node that says nothing about the next ticket confirms nothing.
     (5, ((200, 0), (0, 0), (0, 0)), Standing::Unanswered),
     (5, ((200, 503), (404, 404), (0, 0)), Standing::Elsewhere),
     (5, ((200, 503), (0, 0), (200, 404)), Standing::Newest),
@@ -41,7 +41,7 @@ fn witness(codes: (u16, u16), newest: Option<u64>) -> Witness {
     }
 }
 
-/// Of nodes that show these releases, where the folder's last one is 4.
+/// Checks nodes that show these releases, if the folder's last release is 4.
 fn stands_showing(rt: &impl Abort, last: u64, nodes: Codes, newest: Newest, wanted: Standing) {
     let witnesses = [
         witness(nodes.0, newest.0),
@@ -62,8 +62,8 @@ fn standings(rt: HostRuntime) {
     }
 }
 
-/// The newest releases of three nodes that answer, where the folder's last one is 4, and none knows ticket 5;
-/// and how the ledger stands.
+/// The newest releases of three nodes that answer, if the folder's last release is 4 and no node knows ticket
+/// 5; and how the ledger stands.
 const SHOWING: &[(Newest, Standing)] = &[
     ((Some(0), Some(0), Some(0)), Standing::Returning),
     ((Some(3), Some(0), Some(2)), Standing::Returning),
@@ -80,7 +80,7 @@ fn nodes_that_are_behind(rt: HostRuntime) {
     }
 }
 
-/// The file of a ledger, the ticket whose receipt has to stand, and the last release that was shown.
+/// The file of a ledger, the ticket that must have a receipt, and the last release that was shown.
 const LAST: &[(&str, u64, u64)] = &[
     ("published 2\neditor 7\nnext 1\nlast_release 0\n", 0, 0),
     ("published 2\neditor 7\nnext 9\nlast_release 8\n", 8, 0),

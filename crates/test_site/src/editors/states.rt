@@ -7,10 +7,10 @@ use editor_plan::{LeftOver, left_by, states_of, touched};
 use std::alloc::{AllocError, Global};
 use std::process::Abort;
 
-/// A folder's publications, and what came of them, a letter for each command.
+/// A folder's publications, and their results, a letter for each command.
 #[derive(Clone, Copy)]
 struct Row {
-    /// The texts that are planned one after the other, or a release (`!`), and how many of each plan get
+    /// The texts that are planned one after the other, or a release (`!`), and how many of each plan receive
     /// their receipts.
     plans: &'static [(&'static str, u64)],
     /// The folder's texts in each state.
@@ -30,7 +30,7 @@ const ROWS: &[Row] = &[
         touched: "TA",
         left: (0, 0),
     },
-    // The first run is interrupted: nothing of it may be shown, what has its receipts, or all.
+    // The first run is interrupted: the release may show nothing of it, what has its receipts, or all.
     Row {
         plans: &[("TA", 1)],
         states: "ta|T|TA",
@@ -45,7 +45,7 @@ const ROWS: &[Row] = &[
         touched: "ta",
         left: (2, 1),
     },
-    // After a release nothing else may be shown.
+    // After a release it may show nothing else.
     Row {
         plans: &[("TA", 2), ("!", 1)],
         states: "TA",
@@ -53,7 +53,7 @@ const ROWS: &[Row] = &[
         touched: "B",
         left: (0, 0),
     },
-    // What is removed is touched, be it that this folder never put it.
+    // What is removed is touched, even if this folder never put it.
     Row {
         plans: &[("TA", 2), ("!", 1)],
         states: "TA",
@@ -75,7 +75,7 @@ const ROWS: &[Row] = &[
         touched: "",
         left: (0, 0),
     },
-    // A later run is interrupted, and then another, whose folder differs.
+    // A later run is interrupted, and then another run, whose folder differs.
     Row {
         plans: &[("TA", 2), ("!", 1), ("TB", 0)],
         states: "TA|TA|TAB",
@@ -99,7 +99,7 @@ const ROWS: &[Row] = &[
     },
 ];
 
-/// A plan, of which so many get their receipts.
+/// Makes a plan, of which this many commands receive their receipts.
 fn take(rt: &impl Abort, alloc: Global, ledger: &mut Ledger, letters: &str, received: u64) {
     if letters == "!" {
         plan_release(rt, alloc, ledger);
@@ -112,7 +112,7 @@ fn take(rt: &impl Abort, alloc: Global, ledger: &mut Ledger, letters: &str, rece
     }
 }
 
-/// The letters of each, with a bar between.
+/// The letters of each state, with a bar between.
 fn joined(alloc: Global, states: &[Vec<String>]) -> Result<String, AllocError> {
     let mut all = String::new(alloc);
     for (i, texts) in states.iter().enumerate() {

@@ -1,16 +1,16 @@
-//! What a publication takes over from others, as tables.
+//! What a publication takes over from other editors, as tables.
 use crate::comparing::{ensure, same};
 use editor_plan::{is_of_page, is_taken, joins};
 
-/// Statuses of answers for a path, whether each is one that a node gives for a page, and whether the path is
-/// taken over if the folder's own texts answer otherwise, and if they answer so.
+/// The statuses of answers for a path, whether each is one that a node gives for a page, and whether the path
+/// is taken over: if the folder's own texts answer otherwise, and if they answer so.
 const ANSWERS: &[(u16, bool, Option<bool>, Option<bool>)] = &[
     (200, true, Some(true), Some(false)),
     (301, true, Some(true), Some(false)),
     (500, true, Some(true), Some(false)),
     // Nothing is there.
     (404, true, Some(false), Some(false)),
-    // What stands before a node says so.
+    // A proxy before a node answers so.
     (302, false, None, None),
     (401, false, None, None),
     (403, false, None, None),

@@ -1,11 +1,12 @@
-//! What no page of a folder comes to.
+//! What no page of a folder shows.
 use crate::comparing::same;
 use crate::editors::folders::{folder, lines_of};
 use editor_folder::{Folder, unused_of};
 use std::alloc::Global;
 use std::process::Abort;
 
-/// A folder of which half is not shown: partials that call each other, and that what is not shown calls.
+/// A folder of which half is not shown: two partials call each other, and a template that is not shown calls
+/// one of them.
 const HALF: &[(&str, &[u8])] = &[
     ("data/a.json", b"{}"),
     ("data/b.json", b"{}"),
