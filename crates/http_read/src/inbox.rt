@@ -1,6 +1,7 @@
 //! The bytes that were read from a connection and not yet used.
 //!
-//! It reads by itself, as no clause could tie bytes lent.
+//! An inbox reads from the connection by itself: if it lent its room for that, no clause could say what the
+//! reader wrote into it.
 
 ghost use Rattle.std.specs.Prelude.{◌≡◌, ◌≢◌, ℕ, ◌+◌, ◌-◌, List, [], ◌<◌, ◌≤◌, length, take, drop};
 ghost use Rattle.std.specs.Prelude.{slice_range, Ok, IfOk, OnOk, OnErr, IfErr, IsErrOf, IsTrue, ◌↔◌, vec_len};
