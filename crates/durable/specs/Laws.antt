@@ -60,7 +60,7 @@ CrashSettlesBatch = (node cluster : ℕ) (earlier batch : List Entry) (d : DiskS
     → (found : List Entry) × ((found ≡ earlier) ⊎ (found ≡ earlier ++ batch))
     × ((past : List Moment) → Keeps node cluster found None (at_rest left past))
 
--- an opening that is refused keeps what may stand, and leaves it at any moment
+-- an opening that is refused keeps what the disk may keep, and so does a crash at any moment of it
 abbrev pub SyncKeepsBatch : Type 0
 SyncKeepsBatch = (node cluster : ℕ) (earlier batch : List Entry) (d : DiskState)
     → KeepsNoneOrAll node cluster earlier batch d

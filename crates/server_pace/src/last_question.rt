@@ -50,7 +50,7 @@ impl LastQuestion {
         }
     }
 
-    /// How many questions in a row are for one instance, where the next one comes and so many values are
+    /// How many questions in a row are for one instance, if the next one comes now and this many values are
     /// known.
     pub(crate) fn again_after(self, known: u32) -> u32
         ensures { result ≡ again_after self known }
