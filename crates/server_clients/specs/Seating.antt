@@ -38,8 +38,8 @@ IsSlow times now seat = (begun : ℕ) × (seat.begun ≡ Some begun) × (times.k
 abbrev pub MayGo : {T : Type 0} → Times → ℕ → Seat T → Type 0
 MayGo times now seat = (length (owed seat.connection) ≡ 0) ⊎ IsSlow times now seat
 
--- of the seat found so far, with the moment since when it was silent, and the next one: whichever was silent
--- longer, or the one found if both were silent equally long
+-- the seat that was silent longer: the one found so far, with the moment since when it was silent, or the
+-- next one; the one found if both were silent equally long
 abbrev pub earlier : Option (ℕ × ℕ) → ℕ → Option ℕ → Option (ℕ × ℕ)
 earlier found i None = found
 earlier None i (Some since) = Some (i, since)

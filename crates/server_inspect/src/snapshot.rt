@@ -19,8 +19,8 @@ pub struct End {
     pub last: u8,
 }
 
-/// A file that is read up to an end, and never written or synced. As of each real file no state of the model
-/// is claimed of it.
+/// A file that is read up to an end, and never written or synced. No clause says that it stands for a state
+/// of the model, as for each real file.
 #[derive(Drop)]
 pub struct Snapshot {
     file: FileDisk,
@@ -50,7 +50,7 @@ fn end_at_rest(file: &mut FileDisk) -> Result<End, DiskFailed> {
 }
 
 impl Snapshot {
-    /// The file as it is now. If it cannot be read, it is given back.
+    /// The file as it is now. If it cannot be read, it is returned.
     pub fn new(file: File) -> Result<Snapshot, FileDisk> {
         let mut file = FileDisk::new(file);
         match end_at_rest(&mut file) {

@@ -15,7 +15,6 @@ use wire::MAX_MESSAGE;
 /// Room for a datagram and one more byte, so that one that was cut short spells nothing; for a spelling; and
 /// for what the node hands out. Many drives can share a desk: each begins it anew, and none allocates the 32
 /// KB of a datagram again.
-/// KB of a datagram again.
 #[derive(Drop)]
 pub struct Desk {
     pub(crate) alloc: Global,
