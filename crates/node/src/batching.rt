@@ -13,8 +13,8 @@ impl<D: Disk> Node<D> {
     ghost use Rattle.node.specs.Standing.{IsNodeOf, IsOnDisk, KeepsOthers, CountsDevice};
 
     /// Opens a batch. Until it is sealed each call is the event that it is, but what it puts on record is in
-    /// memory only. So what it hands out may be given to nobody yet, not even to the node itself. If a batch
-    /// is open already, nothing changes.
+    /// memory only. So nothing that it hands out may be given to anyone yet, not even to the node itself. If
+    /// a batch is open already, nothing changes.
     pub fn begin(&mut self) -> Result<(), NodeFault>
         ensures begun { OnOk result (BeginsAt D.stands_for self.old self.new) }
         ensures same { (s : AbstractNode) → IsNodeOf self.old s → IsNodeOf self.new s }

@@ -61,7 +61,7 @@ impl ReadValue {
         }
     }
 
-    /// So too, but it takes what was read of the value before, if that is there.
+    /// Reads a value that is a command, too, but takes what was read of it before, if that is there.
     pub(crate) fn read_once(
         alloc: Global,
         value: &Value,

@@ -6,8 +6,8 @@ ghost use Rattle.server_notes.specs.Noting.{joined_at, learned_at, has_settled};
 /// Milliseconds in which few values become known once a server has caught up.
 const SETTLING: u64 = 2000;
 
-/// What is heard of in the first of these milliseconds has to be known at the end of SETTLING, which is
-/// enough for a question and its answer. A value that is heard of later may just be tried.
+/// What is heard of in this first part of `SETTLING` has to be known at its end: the rest is enough for a
+/// question and its answer. A value that is heard of later may just be tried.
 const HEARING: u64 = 1500;
 
 /// At least this many values in that time are not few: one whole telling of another node.
