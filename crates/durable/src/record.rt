@@ -79,7 +79,7 @@ impl<D: Disk> Record<D> {
         Ok(disk.sync()?)
     }
 
-    /// Reads a record, after a sync. A refusal gives the disk back.
+    /// Reads a record, after a sync. A refusal returns the disk.
     pub fn open(
         alloc: Global,
         cluster: Cluster,
@@ -204,7 +204,7 @@ impl<D: Disk> Record<D> {
         self.recorded.gate
     }
 
-    /// Gives the disk back, without the entries of a batch that is open.
+    /// Returns the disk, without the entries of a batch that is open.
     pub fn close(self) -> D
         ensures { result ≡ self.disk }
     {

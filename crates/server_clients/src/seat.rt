@@ -19,7 +19,7 @@ use site_disk::Disk;
 use std::alloc::{AllocError, Global};
 use std::io::{Read, Write};
 
-/// A connection and its stream: who gives one away gives the other. Times are milliseconds since the server
+/// A connection and its stream, which are always given away together. Times are milliseconds since the server
 /// began.
 #[derive(Drop)]
 pub struct Seat<S> {

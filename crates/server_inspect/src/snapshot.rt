@@ -1,8 +1,8 @@
 //! A file as it is at a moment, while another process may append to it.
 //!
-//! A node writes after its last gate, and then opens it. What stands after an open gate never changes, so
-//! only the gate at the end might be read open while what it opens lies past the length that was taken: its
-//! byte is read once, between two looks at the length that agree.
+//! A node writes after its last gate, and then opens it. What follows an open gate never changes. Only the
+//! gate at the end might be read open while what it opens is past the length that was taken. So its byte is
+//! read once, between two looks at the length that agree.
 
 ghost use Rattle.std.specs.Prelude.{◌≡◌};
 

@@ -95,8 +95,8 @@ abbrev pub Ticks : Ticking → ℕ → ℕ → Times → Bool → Type 0
 Ticks t now patience times stake =
     (since : ℕ) × (t.since ≡ Some since) × (patience * waited t times stake ≤ now - since)
 
--- A tick was in vain if a majority answered it and nothing became known before the next one: after each in a
--- row the server waits longer. A tick that no majority answered ends the row
+-- A tick was in vain if a majority answered since, and nothing became known before the next one: after each
+-- in a row the server waits longer. A tick that no majority answered ends the row
 abbrev pub longer_after : Ticking → Times → Bool → ℕ
 longer_after t times answered =
     if not answered then 0
@@ -116,7 +116,8 @@ abbrev pub first_yielding : Yielding
 first_yielding =
     record { tried = no_nodes; tries = None; last = None; stands = None; free = None; took = 0; since = None }
 
--- how long attempts stood, after they ended
+-- how long attempts stood, after they ended. An attempt stands at the instance while that is promised to its
+-- node
 abbrev pub took_by : Option ℕ → ℕ → ℕ → ℕ
 took_by None now took = took
 took_by (Some stands) now took = now - stands

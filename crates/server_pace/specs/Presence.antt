@@ -24,7 +24,7 @@ is_there at times now q = not (passed (get_or at (q - 1) None) now times.silent)
 abbrev pub comes_before : List (Option ℕ) → Times → ℕ → ℕ → ℕ → ℕ → Bool
 comes_before at times now p me q = is_there at times now q && nat_lt (places_behind p q) (places_behind p me)
 
--- how many of the first nodes come before this one
+-- how many of the nodes from 1 to a number come before this one
 abbrev pub before : List (Option ℕ) → Times → ℕ → ℕ → ℕ → ℕ → ℕ
 before at times now p me zero = 0
 before at times now p me (suc k) =

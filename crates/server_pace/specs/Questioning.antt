@@ -46,8 +46,8 @@ is_behind seen = seen.kept || nat_le (min (seen.known + MAX_TOLD) (2 ^ 32 - 1)) 
 abbrev pub lacks : Seen → Bool → Bool
 lacks seen calm = is_behind seen || (nat_eq seen.known 0 || (calm && nat_lt seen.known seen.reached))
 
--- what counts since the last question; more says whether the server is yet to hear more of what is on its
--- record
+-- what decides whether it asks, since the last question; more says whether the server is yet to hear more of
+-- what is on its record
 abbrev pub asking_of : LastQuestion → Times → ℕ → Seen → ℕ → Bool → Asking
 asking_of last times now seen empty more = record {
   learned = seen.known - last.known;
@@ -112,7 +112,7 @@ told_count known i count = if nat_le i known then min count (known - i + 1) else
 abbrev pub may_have_votes : Course → ℕ → Bool
 may_have_votes course furthest = nat_le course.next course.first && nat_le course.next furthest
 
--- what is to be told to node p, on that course
+-- what decides whether node p is told, on that course
 pub record StandsSo (q : Questions) (teller : Teller) (s : Node) (p : ℕ) (course : Course)
     (telling : Telling) : Type 0 where
   pub full : IsTrue telling.full ↔ IsFull s course.next

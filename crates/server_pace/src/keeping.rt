@@ -9,7 +9,8 @@ ghost use Rattle.server_pace.specs.Keeping.{kept_on, owed_at, IsKeepDue, IsNextB
 use server_times::Times;
 use site_ids::Instance;
 
-/// How many instances, from the first one on, have their value put on record, and since when more is known.
+/// For how many instances, from the first one on, the known value was put on record, and since when more is
+/// known.
 #[derive(Clone, Copy, Debug, PartialEq, Eq, Drop)]
 pub struct Keeping {
     /// How many instances were kept since the server began.

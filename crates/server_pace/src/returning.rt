@@ -16,7 +16,7 @@ pub struct Returning {
 }
 
 impl Returning {
-    /// Of a server that begins over a record whose furthest vote or value is at `recorded`.
+    /// For a server that begins over a record whose furthest vote or value is at `recorded`.
     pub fn new(times: Times, recorded: u32) -> Returning
         ensures { result ≡ returning_of times recorded }
     {

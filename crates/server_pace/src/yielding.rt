@@ -12,7 +12,8 @@ use site_ids::{NodeId, NodeSet};
 /// millisecond more: turns of six others.
 const TURNS: u64 = 6;
 
-/// Whose attempts this server saw at its first unknown instance, and since when it yields.
+/// Whose attempts this server saw at its first unknown instance, and since when it yields. An attempt stands
+/// there while the instance is promised to its node.
 #[derive(Clone, Copy, Debug, PartialEq, Eq, Drop)]
 pub struct Yielding {
     /// The nodes that tried since it last waited in vain.
@@ -58,7 +59,7 @@ impl Yielding {
         }
     }
 
-    /// The attempts that stood there end.
+    /// The attempts that stood there have ended.
     fn end(&mut self, now: u64)
         ensures { self.new ≡ ended self.old now }
     {

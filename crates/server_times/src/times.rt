@@ -11,12 +11,11 @@ pub struct Times {
     /// Milliseconds without news after which it tries a value again, at least: more at greater numbers
     /// (`Pace`). An option of the command line; the servers of a group may have different ones.
     pub patience: u64,
-    /// How many patiences it waits at most, as the patience grows with the tries that brought no news
-    /// (`Ticking`).
+    /// How many patiences it waits at most after tries that brought no news, `longer` aside (`Ticking`).
     pub growth: u32,
     /// How many patiences longer it waits after each try that a majority answered and that brought no news,
-    /// without a bound. A server without a stake always waits as many longer (`Ticking`). So servers far
-    /// apart do not outbid one another for ever.
+    /// without a bound. A server without a stake always waits at least as many longer (`Ticking`). So servers
+    /// far apart do not outbid one another for ever.
     pub longer: u32,
     /// Milliseconds for which a server without a stake leaves the decision to the others, at most, while
     /// their messages come (`Ticking`).
