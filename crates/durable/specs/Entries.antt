@@ -54,7 +54,8 @@ learned_at i (Learned j v ∷ es) = if nat_eq j i then Some v else learned_at i 
 learned_at i (Floor f ∷ es) = learned_at i es
 
 -- The floor of a record that took the place of a lost one: nobody knows what the lost record promised and
--- voted for at instances up to it. It is the first entry. 0 if the first entry is another, or there is none
+-- voted for at instances up to it. It is the first entry. It is 0 if the first entry is of another kind, or
+-- if there is none
 abbrev pub floor_of : List Entry → ℕ
 floor_of (Floor f ∷ es) = f
 floor_of es = 0
@@ -74,8 +75,8 @@ abbrev pub reach_of : List Entry → ℕ
 reach_of [] = 0
 reach_of (e ∷ es) = max (reach_in e) (reach_of es)
 
--- The entry promises this ballot at the instance, or votes at it. The node's promise there is the greatest
--- such ballot of all entries
+-- The entry is a promise of this ballot at the instance, or a vote there at this ballot. The node's promise
+-- there is the greatest such ballot of all entries
 abbrev pub Raises : Entry → ℕ → BallotOf → Type 0
 Raises (Round r) i b = ⊥
 Raises (Promised j c) i b = (j ≡ i) × (c ≡ b)

@@ -13,7 +13,7 @@ abbrev pub OneList : Type 0
 OneList = (node cluster : ℕ) (file : List ℕ) (a b : List Entry) → StandsFor node cluster file a
     → StandsFor node cluster file b → a ≡ b
 
--- a disk at rest keeps the entries as which it reads, and no others
+-- a disk at rest keeps exactly the entries that are read from it
 abbrev pub SettledKeeps : Type 0
 SettledKeeps = (node cluster : ℕ) (entries : List Entry) (d : DiskState) → IsSettled d
     → StandsFor node cluster d.seen entries → Keeps node cluster entries None d

@@ -116,8 +116,8 @@ Acknowledges stands_for old new entry = (d : DiskState) (entries : List Entry)
     × LeavesOnly d e (IsFound old.node old.cluster entries (Some entry))
     × (length e.past ≡ 4 + length d.past) × IsOpenAt old.recorded.gate d.seen (behind_gate entry) e.seen
 
--- A put of the entry has failed since the device failed: the entry is in flight. The entries stay, with it or
--- without it, without a crash and after a crash at any moment since then.
+-- A put of the entry has failed because the device failed: the entry is in flight. The entries stay, with it
+-- or without it, without a crash and after a crash at any moment since then.
 abbrev pub LeavesInFlight : {D : Type 0} → (D → DiskState → Type 0) → Record D → Record D → Entry → Type 0
 LeavesInFlight stands_for old new entry = (d : DiskState) (entries : List Entry)
     → IsReady stands_for old d entries

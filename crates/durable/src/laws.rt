@@ -7,8 +7,8 @@ pub fn files_stand_for_one_list()
     ensures { OneList }
 {}
 
-/// A disk at rest keeps the entries that it reads as. A crash, and an opening without one, settle whether the
-/// entry in flight is on record.
+/// A disk at rest keeps exactly the entries that are read from it. A crash, and an opening without one,
+/// settle whether the entry in flight is on record.
 pub fn in_flight_settles()
     ensures rest { SettledKeeps }
     ensures crash { CrashSettles }

@@ -36,7 +36,7 @@ impl Recorded {
     ghost use Rattle.durable.specs.Reading.{IsKept, Takes, meaning};
     ghost use Rattle.durable.specs.Slots.{IsThere};
 
-    /// What no entries record.
+    /// Nothing is recorded.
     pub(crate) fn new(alloc: Global) -> Recorded
         ensures gate { result.gate ≡ 10 }
         ensures kept { IsKept [] result }

@@ -20,7 +20,8 @@ fn write_front(bytes: &mut Vec<u8>, front: &[u8])
     bytes[0..front.len()].copy_from_slice(front);
 }
 
-/// What is written of a batch after the gate on the disk: the bytes after index `from`, which end at a gate.
+/// What is written of a batch after the gate on the disk: the bytes from index `from` on, which end at a
+/// gate.
 pub(crate) struct Sealed {
     pub(crate) from: usize,
     pub(crate) end: u64,

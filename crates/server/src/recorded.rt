@@ -22,7 +22,7 @@ pub struct Recorded {
     pub furthest: u32,
 }
 
-/// One more than `count`, if `is` holds.
+/// `count`, and one more if `is` holds.
 fn count_on(count: u32, is: bool) -> u32
     ensures { result ≡ (if is then min (count + 1) (2 ^ 32 - 1) else count) }
 {

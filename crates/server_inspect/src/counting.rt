@@ -17,7 +17,7 @@ pub(crate) struct Counts {
     pub last: u32,
 }
 
-/// One more than `many`, if `is` holds.
+/// `many`, and one more if `is` holds.
 fn counted(many: u32, is: bool) -> u32
     requires { many < 2 ^ 32 - 1 }
     ensures { result ≡ (if is then many + 1 else many) }

@@ -69,7 +69,7 @@ pub trait Disk {
             × stands_for self.new (after_write d at (length bytes.now) seen)) }
         ensures uncounted { failed self.new ≡ failed self.old };
 
-    /// Puts all that was written on the disk to stay. A sync that fails does nothing.
+    /// Puts all that was written on the disk to stay. A sync that fails counts as no sync.
     fn sync(&mut self) -> Result<(), DiskFailed>
         ensures synced { OnOk result ((d : DiskState) → stands_for self.old d
             → stands_for self.new (after_sync d)) }

@@ -140,7 +140,7 @@ EndsLast (Tell q i) n p s ending out next = Ends n p s (tell (One q) i) ending o
 EndsLast (Keep i count) n p s ending out next = KeepsEach n p i count s ending next × (out ≡ [])
 EndsLast Nothing n p s ending out next = (ending ≡ Whole) × (out ≡ []) × (next ≡ s)
 
--- the calls are whole; or they are refused since every instance is known, which is ignored
+-- the calls are whole; or they are refused because every instance is known, which is ignored
 abbrev pub EndsTurns : LastCall → ℕ → ℕ → Node → List (To × Message) → Node → Type 0
 EndsTurns last n p s out next = EndsLast last n p s Whole out next
     ⊎ EndsLast last n p s (Refused InstancesUsedUp) out next

@@ -1,7 +1,7 @@
 //! A batch: all that a node does with what came is on the disk together, before the node sends any of its
 //! messages.
 //!
-//! If a batch cannot be begun as an allocation fails, it is given up, and the server ends.
+//! If a batch cannot be begun because an allocation fails, it is given up, and the server ends.
 
 ghost use Rattle.std.specs.Prelude.{◌≡◌, ◌⊎◌, ◌≤◌, [], Bool, true, length, IfOk, IfErr, IsErrOf, OnOk, OnErr};
 ghost use Rattle.node.specs.Standing.{IsNodeOf, StaysOnDisk, KeepsOthers, CountsDevice, failures};
@@ -150,10 +150,10 @@ impl Desk {
         self.take_sealed(node, came, last)
     }
 
-    /// One batch: delivers what came, in order, and makes the last call. Two writes and two syncs put on the
-    /// disk what that put on record; none do if nothing was put. Before that the record's file grows ahead,
-    /// if the desk has room for that and it is due (`Room`). Then the node publishes. What the node hands out
-    /// waits for `post`. Returns how many datagrams spell no message: they are ignored, as losses.
+    /// One batch: delivers what came, in order, and makes the last call. What that put on record reaches the
+    /// disk by two writes and two syncs, or by none if nothing was put. Before that the record's file grows
+    /// ahead, if the desk has room for that and it is due (`Room`). Then the node publishes. What the node
+    /// hands out waits for `post`. Returns how many datagrams spell no message: they are ignored, as losses.
     ///
     /// If the device fails, all of the batch is on the disk or nothing, and the node is stopped. If an
     /// allocation fails, what was done before is on the disk. After any fault nothing waits for `post`: what

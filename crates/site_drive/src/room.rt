@@ -29,7 +29,7 @@ impl Room {
     }
 
     /// The same after the file of a record of `bytes` bytes grew, or could not. A file without room is tried
-    /// again only after half of the room was recorded.
+    /// again only after as much was recorded as half of the room.
     pub fn after(self, bytes: u64) -> Room
         ensures { result ≡ record self { next = min (bytes + self.size / 2) (2 ^ 64 - 1) } }
     {
