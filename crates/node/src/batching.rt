@@ -33,9 +33,9 @@ impl<D: Disk> Node<D> {
     }
 
     /// Writes all that the calls of the batch put on record to the disk, and closes the batch. After that
-    /// what they handed out may be given away. If the device fails, either all of it is on the disk or none.
-    /// The node is then stopped, its memory is ahead of the disk, and only the next opening shows what is on
-    /// the disk.
+    /// what they handed out may be sent. If the device fails, either all of the batch is on the disk or none
+    /// of it. The node is then stopped, its memory is ahead of the disk, and only the next opening shows what
+    /// is on the disk.
     pub fn seal(&mut self) -> Result<(), NodeFault>
         ensures sealed { OnOk result (SealsAt D.stands_for self.old self.new) }
         ensures same { OnOk result ((s : AbstractNode) → IsNodeOf self.old s → IsNodeOf self.new s) }

@@ -96,8 +96,8 @@ NobodyIsMute n g = (q r j : ℕ) → IsNode n q → IsNode n r → IsInstance j 
     → ¬ IsMute (g q).node j
 
 -- A schedule led to a group, which takes a round. After it some server is asked for a ballot that no record
--- exceeds at the instance, and nobody overbids that ballot then or in the two rounds after. Then its node
--- knows the instance four rounds later
+-- exceeds at the instance. Nobody overbids that ballot then or in the two rounds after. Then its node knows
+-- the instance four rounds later
 abbrev pub HighestDecides : Type 0
 HighestDecides = (n d i : ℕ) (b : BallotOf) (events : List Event) (x e f g h : Group) → IsLedTo n events x
     → NobodyIsMute n x → IsRound n d x e → IsAskedFor n i b e → NobodyPromisedAbove n i b e

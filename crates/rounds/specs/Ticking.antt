@@ -13,7 +13,7 @@ use Rattle.rounds.specs.Rounds.{Server, Group, Steps, IsRound, AreRounds}
 use Rattle.rounds.specs.Agreeing.{IsLedTo}
 use Rattle.rounds.specs.Proposing.{IsAskedFor, NobodyIsMute}
 
--- the server ticks since its patience has passed, and not for a fresh value
+-- the server ticks because its patience has passed, and not for a fresh value
 abbrev pub ticks_as_due : LastCall → Due → Bool
 ticks_as_due TickOrAsk due = due.tick && not due.fresh
 ticks_as_due last due = false

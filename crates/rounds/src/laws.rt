@@ -41,11 +41,11 @@ pub fn rounds_agree()
     batches_are_runs::<MemDisk>();
 }
 
-/// The highest ballot that is asked for, and that no record exceeds, decides in four rounds, if nobody
-/// overbids it in the first two, whatever else the servers do. So does an attempt. A proposal that waits for
-/// all servers decides in two. After a request its ballot or a higher one is on record. A ballot above all
-/// that are on record comes from a tick, or from widenings of a server that had no attempt. Ticks that are
-/// due are a patience apart, so there are few.
+/// The highest ballot that is asked for, and that no record exceeds, decides in four rounds if nobody
+/// overbids it in the first two. What else the servers do does not matter. An attempt decides in four rounds,
+/// too. A proposal that waits for all servers decides in two. After a request its ballot or a higher one is
+/// on record. A ballot above all that are on record comes from a tick, or from widenings of a server that had
+/// no attempt. Ticks that are due are a patience apart, so there are few.
 pub fn attempts_decide()
     ensures highest { HighestDecides }
     ensures attempt { AttemptDecides }

@@ -89,7 +89,7 @@ impl<S> Seat<S> {
         }
     }
 
-    /// Whether its next request is left, as it asks for a receipt that is not there yet.
+    /// Whether its next request is left, because it asks for a receipt that is not there yet.
     fn is_left<D: Disk>(&self, served: &Served<D>, times: Times, now: u64) -> bool
         ensures { IsTrue result ↔ IsLeft offered times now served.now self.now }
     {

@@ -19,8 +19,8 @@ pub struct End {
     pub last: u8,
 }
 
-/// A file that is read up to an end, and never written or synced. No clause says that it stands for a state
-/// of the model, as for each real file.
+/// A file that is read up to an end, and never written or synced. As for each real file, no clause says that
+/// it stands for a state of the model.
 #[derive(Drop)]
 pub struct Snapshot {
     file: FileDisk,

@@ -22,7 +22,7 @@ pub enum Note {
     CaughtUp {
         instance: u32,
     },
-    /// For this long no majority was heard, the server itself counted.
+    /// For this long no majority was heard. The server counts itself.
     NoMajority {
         seconds: u64,
     },

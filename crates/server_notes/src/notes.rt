@@ -87,7 +87,8 @@ impl Notes {
         self.full = self.full || full;
     }
 
-    /// What is due, each kind at its index. The silence of `silent`, and the end of that of `ended`, are due.
+    /// What is due, each kind at its index. `silent` is the first node whose silence is due to be reported,
+    /// `ended` the first whose silence has ended.
     fn due(
         &self,
         now: u64,
@@ -180,7 +181,7 @@ impl Notes {
     }
 
     /// The next line, if one is due: at most one of each kind in a second. `known` values are known, and
-    /// `newest` is the newest release. A line that was said is no longer due.
+    /// `newest` is the newest release. A line that was reported is no longer due.
     pub fn next(&mut self, now: u64, known: u32, newest: u64) -> Option<Note>
         ensures { Says self.old now known newest result self.new }
     {
@@ -190,7 +191,7 @@ impl Notes {
     }
 }
 
-/// The line, if none of its kind was ever reported, or a second has passed since.
+/// The line, if none of its kind was ever reported, or a second has passed since the last one.
 fn may_say(said: Option<u64>, now: u64, due: Option<Note>) -> Option<Note>
     ensures { result ≡ (if is_free said now then due else None) }
 {

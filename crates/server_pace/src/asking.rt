@@ -56,7 +56,7 @@ pub struct Telling {
     pub asked: bool,
     /// The value of the first of the instances is known, or on record as learned.
     pub known: bool,
-    /// There may be votes to tell: the node asked for the first of the instances, and messages were about it
+    /// There may be votes to tell. The node asked for the first of the instances; and messages were about it
     /// or a later one, or the teller's record had a vote as far on when it began.
     pub votes: bool,
     /// Nobody was seen to try a value since the teller asked last.

@@ -87,8 +87,8 @@ pub struct Times {
     /// response. So the response is not lost (RFC 9112, section 9.6): a client that reads it closes within
     /// that time (`Linger`).
     pub lingering: u64,
-    /// Milliseconds for which a request keeps a seat from others. One that takes longer, as its client sends
-    /// or reads slowly, is dropped for another client if all seats are taken (`Seats::make_room`).
+    /// Milliseconds for which a request keeps a seat from others. One that takes longer, because its client
+    /// sends or reads slowly, is dropped for another client if all seats are taken (`Seats::make_room`).
     pub keeps_seat: u64,
     /// Milliseconds, after the last bytes of the client, for which a request for a receipt that is not there
     /// yet is left: most values are known by then, and a client asks once.

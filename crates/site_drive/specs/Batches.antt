@@ -82,8 +82,8 @@ pub record TakesBatch (last : LastCall) (n p : ℕ) (came : List (List ℕ)) (ma
   pub works : Works last n p came malformed out s next
   pub fed_is : IsKnownPrefix next fed
 
--- given up. The batch was not begun, as the node is stopped or an allocation failed; or its work is given up;
--- or an allocation failed as the node published
+-- given up. The batch was not begun, because the node is stopped or an allocation failed; or its work is
+-- given up; or an allocation failed as the node published
 abbrev pub GivesUpBatch : LastCall → ℕ → ℕ → List (List ℕ) → NodeFault → Node → Node → Type 0
 GivesUpBatch last n p came why s next =
     ((why ≡ fault.Stopped) × (s.mode ≡ Stopped) × (next ≡ s))

@@ -107,8 +107,8 @@ pub record TicksAndWidens (n p : ℕ) (s : Node) (ending : Ending) (out : List (
   pub widens : Widens n p mid ending widened next
   pub out_is : out ≡ ticked ++ widened
 
--- If a tick is wanted, either the tick ends in this way and is not whole, or widenings follow it, and the
--- last of them ends in this way. If no tick is wanted, a question ends in this way
+-- If a tick is wanted, the tick ends in this way and is not whole; or widenings follow it, and the last of
+-- them ends in this way. If no tick is wanted, a question ends in this way
 abbrev pub TicksOrAsks : ℕ → ℕ → Node → Ending → List (To × Message) → Node → Type 0
 TicksOrAsks n p s ending out next =
     (WantsTick s × (((ending ≢ Whole) × Ends n p s tick ending out next)
