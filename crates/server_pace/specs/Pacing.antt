@@ -165,8 +165,8 @@ IsSoon y now = (free : ℕ) × (y.free ≡ Some free) × (now - free ≤ y.took 
 abbrev pub MayGoOn : Yielding → Times → ℕ → Type 0
 MayGoOn y times millis = (millis < times.yielding) × (millis < 6 * (y.took + 1))
 
--- The server waits no longer than MayGoOn permits. For an attempt that has not begun it waits hardly longer
--- than the last attempts stood
+-- The server yields while it waits, but in a stretch no longer than MayGoOn permits. For an attempt that has
+-- not begun it yields hardly longer than the last attempts stood
 abbrev pub Yields : Yielding → Times → ℕ → ℕ → Type 0
 Yields y times now me =
     Waits y me

@@ -3,7 +3,7 @@ use Rattle.std.specs.Prelude.{ℕ, ◌+◌, ◌-◌, ◌*◌, ◌/◌, ◌^◌, 
 use Rattle.std.specs.Prelude.{if◌then◌else◌, Option, Some, None}
 use Rattle.server_times.specs.declared.times.Times.{Times}
 
--- that many milliseconds have passed since then; since never they have
+-- millis milliseconds have passed since then; they also have if there is no such moment
 abbrev pub passed : Option ℕ → ℕ → ℕ → Bool
 passed None now millis = true
 passed (Some since) now millis = nat_le millis (now - since)

@@ -138,8 +138,8 @@ const STANDARD: Times = Times {
     serve_ms: None,
 };
 
-/// Whether `millis` milliseconds have passed since then, by a clock that never goes back; `None` is never,
-/// and since never they have.
+/// Whether `millis` milliseconds have passed since then, by a clock that never goes back. They have if
+/// `since` is `None`.
 pub fn has_passed(since: Option<u64>, now: u64, millis: u64) -> bool
     ensures is { result ≡ passed since now millis }
     ensures rule { IsTrue result ↔ IfSome since (λ then. millis ≤ now - then) }
