@@ -1,4 +1,4 @@
--- A batch: entries that are put in memory first, and then stand on the disk together.
+-- A batch: entries that are put in memory first, and later are on the disk together.
 use Rattle.std.specs.Prelude.{◌≡◌, ◌≢◌, ◌⊎◌, ℕ, ◌+◌, ◌<◌, nat_lt, if◌then◌else◌, List, [], ◌∷◌, ◌++◌, length}
 use Rattle.std.specs.Prelude.{drop, false}
 use Rattle.site_ids.specs.declared.TheConstants.{MAX_RECORD}
@@ -18,7 +18,7 @@ use Rattle.durable.specs.declared.staged.Staged.{Staged}
 abbrev pub IsBatchOpen : {D : Type 0} → Record D → Type 0
 IsBatchOpen store = 0 < length store.staged.bytes.items
 
--- what a seal writes: the entries after their sum, or without one if the file has no room for that after the
+-- what a seal writes: the entries after their sum, or without a sum if the file has no room for it after the
 -- gate
 abbrev pub sealed_items : ℕ → List Entry → List Item
 sealed_items gate batch = if nat_lt MAX_RECORD (gate + 19) then puts batch else Batch batch ∷ []
@@ -32,8 +32,8 @@ abbrev pub calls_for : List Entry → ℕ
 calls_for [] = 0
 calls_for (entry ∷ batch) = 4
 
--- the file stands for the earlier entries, and the blocks of the batch, which may follow them, wait after
--- room for a sum; the gate stands where they would end
+-- the file stands for the earlier entries; the blocks of the batch, which may follow them, wait after room
+-- for a sum; the gate is the one at which they would end
 pub record Waits (node cluster : ℕ) (file : List ℕ) (earlier batch : List Entry) (gate : ℕ)
     (staged : Staged) : Type 0 where
   pub stands : StandsFor node cluster file earlier
@@ -50,7 +50,7 @@ pub record IsStaged {D : Type 0} (stands_for : D → DiskState → Type 0) (stor
   pub waits : Waits store.node store.cluster d.seen earlier batch store.recorded.gate store.staged
   pub running : store.stopped ≡ false
 
--- and its memory is ahead of the disk: what it keeps is what they record with the batch
+-- and its memory is ahead of the disk: it keeps what the entries record together with the batch
 pub record IsAhead {D : Type 0} (stands_for : D → DiskState → Type 0) (store : Record D) (d : DiskState)
     (earlier batch : List Entry) : Type 0 where
   pub staged : IsStaged stands_for store d earlier batch
@@ -61,8 +61,7 @@ abbrev pub IsNoneOrAll : ℕ → ℕ → List Entry → List Entry → List ℕ 
 IsNoneOrAll node cluster earlier batch file = StandsFor node cluster file earlier
     ⊎ StandsFor node cluster file (earlier ++ batch)
 
--- the disk keeps the earlier entries and perhaps the batch: so it reads without a crash, and so after any
--- crash
+-- the disk keeps the earlier entries and perhaps the batch: that is read without a crash, and after any crash
 pub record KeepsNoneOrAll (node cluster : ℕ) (earlier batch : List Entry) (d : DiskState) : Type 0 where
   pub read : IsNoneOrAll node cluster earlier batch d.seen
   pub left : (left : List ℕ) → MayLeave (moment d) left → IsNoneOrAll node cluster earlier batch left
@@ -79,14 +78,14 @@ Stages stands_for old new bytes = (d : DiskState) (earlier batch : List Entry) (
     → bytes ≡ behind_gate entry
     → IsStaged stands_for new d earlier (batch ++ entry ∷ [])
 
--- the batch has an entry more
+-- the batch has one more entry
 abbrev pub GoesAhead : {D : Type 0} → (D → DiskState → Type 0) → Record D → Record D → Entry → Type 0
 GoesAhead stands_for old new entry = (d : DiskState) (earlier batch : List Entry)
     → IsAhead stands_for old d earlier batch → IsAhead stands_for new d earlier (batch ++ entry ∷ [])
 
--- The record is ready with all of the batch, after two writes and two syncs however many its entries are, and
--- none for no entry; at the gate on the disk stand its blocks after their sum, and the next closed gate. A
--- crash at any moment since then leaves the earlier entries, with all of the batch or with none of it.
+-- The record is ready with all of the batch. That took two writes and two syncs for any number of entries,
+-- and no call for no entry. At the gate on the disk are its blocks after their sum, and the next closed gate.
+-- A crash at any moment since then leaves the earlier entries, with all of the batch or with none of it.
 abbrev pub Seals : {D : Type 0} → (D → DiskState → Type 0) → Record D → Record D → Type 0
 Seals stands_for old new = (d : DiskState) (earlier batch : List Entry)
     → IsAhead stands_for old d earlier batch
@@ -96,8 +95,8 @@ Seals stands_for old new = (d : DiskState) (earlier batch : List Entry)
     × (batch ≢ []
     → IsOpenAt old.staged.base d.seen (behind_gates (sealed_items old.recorded.gate batch)) e.seen)
 
--- The device failed as the batch was written. A crash at any moment since then leaves the earlier entries,
--- with all of the batch or with none of it, and so does none.
+-- The device failed as the batch was written. The earlier entries stay, with all of the batch or with none of
+-- it, without a crash and after a crash at any moment since then.
 abbrev pub LeavesBatch : {D : Type 0} → (D → DiskState → Type 0) → Record D → Record D → Type 0
 LeavesBatch stands_for old new = (d : DiskState) (earlier batch : List Entry)
     → IsAhead stands_for old d earlier batch

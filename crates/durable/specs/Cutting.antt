@@ -2,7 +2,7 @@
 use Rattle.std.specs.Prelude.{◌≡◌, ◌≢◌, ℕ, ◌+◌, ◌<◌, ◌^◌, List, ◌∷◌, ◌++◌, length, drop, slice_index}
 use Rattle.durable.specs.Items.{summed}
 
--- if the gate were open, a batch with its right sum would stand there, and an open gate after it
+-- if the gate were open, it would begin a batch with its right sum, and an open gate would follow the batch
 pub record HasBatchAfter (gate : ℕ) (file : List ℕ) : Type 0 where
   pub blocks : List ℕ
   pub some : 0 < length blocks

@@ -1,4 +1,4 @@
--- Where a file is damaged.
+-- The gate at which a file is damaged.
 use Rattle.std.specs.Prelude.{◌≡◌, ◌⊎◌, ℕ, ◌+◌, List, ◌++◌, length, drop, Option, None, Some}
 use Rattle.durable.specs.Cutting.{IsCutShort}
 use Rattle.durable.specs.Items.{Item, IsLog, item_blocks}
@@ -9,7 +9,7 @@ use Rattle.durable.specs.Standing.{IsLaid}
 abbrev pub end_of : List Item → ℕ
 end_of items = 10 + length (item_blocks items)
 
--- a log's items stand up to the gate, and no item that may follow them stands there
+-- a log's items go up to the gate, and no item that may follow them is there
 pub record IsDamagedAt (cluster gate : ℕ) (file : List ℕ) : Type 0 where
   pub items : List Item
   pub log : IsLog cluster items

@@ -53,13 +53,14 @@ learned_at i (Voted j b v ∷ es) = learned_at i es
 learned_at i (Learned j v ∷ es) = if nat_eq j i then Some v else learned_at i es
 learned_at i (Floor f ∷ es) = learned_at i es
 
--- The floor of a record that took the place of a lost one: of instances up to it nobody knows what the lost
--- record promised and voted for. It is the first entry. 0 if the first entry is another, or there is none
+-- The floor of a record that took the place of a lost one: nobody knows what the lost record promised and
+-- voted for at instances up to it. It is the first entry. It is 0 if the first entry is of another kind, or
+-- if there is none
 abbrev pub floor_of : List Entry → ℕ
 floor_of (Floor f ∷ es) = f
 floor_of es = 0
 
--- how far an entry reaches: a vote to its instance, a floor to itself, any other to none
+-- how far an entry reaches: a vote to its instance, a floor to itself, any other nowhere
 abbrev pub reach_in : Entry → ℕ
 reach_in (Round r) = 0
 reach_in (Promised i b) = 0
@@ -68,14 +69,14 @@ reach_in (Voted i b v) = i
 reach_in (Learned i v) = 0
 reach_in (Floor f) = f
 
--- how far the entries reach: the greatest instance of a vote, or the floor if that is greater; or 0 if there
--- are neither
+-- how far the entries reach: the greatest instance of a vote, or the floor if that is greater; 0 if there is
+-- neither
 abbrev pub reach_of : List Entry → ℕ
 reach_of [] = 0
 reach_of (e ∷ es) = max (reach_in e) (reach_of es)
 
--- The entry has a promise to this ballot at the instance, or a vote at it. The node's promise there is the
--- greatest such ballot of all entries
+-- The entry is a promise of this ballot at the instance, or a vote there at this ballot. The node's promise
+-- there is the greatest such ballot of all entries
 abbrev pub Raises : Entry → ℕ → BallotOf → Type 0
 Raises (Round r) i b = ⊥
 Raises (Promised j c) i b = (j ≡ i) × (c ≡ b)
@@ -90,12 +91,12 @@ IsPromise es i None = (e : Entry) (b : BallotOf) → In es e → Raises e i b �
 IsPromise es i (Some b) = ((e : Entry) × In es e × Raises e i b)
     × ((e : Entry) (c : BallotOf) → In es e → Raises e i c → NotAbove c b)
 
--- the slot of an instance by the entries
+-- the slot that the entries record for an instance
 pub record IsSlot (es : List Entry) (i : ℕ) (s : Slot) : Type 0 where
   pub promise : IsPromise es i s.promised
   pub vote : s.vote ≡ last_vote i es
 
--- the entry by which a ballot is promised at the k instances from i on: a span of one is one instance's
+-- the entry that promises a ballot at the k instances from i on: a span of one is one instance's promise
 abbrev pub promise_of : ℕ → ℕ → BallotOf → Entry
 promise_of i k b = if nat_eq k 1 then Promised i b else PromisedSpan i k b
 

@@ -1,5 +1,5 @@
--- How the record is made that takes the place of a lost one: at no moment would a crash leave a record
--- without its floor.
+-- How the record is made that takes the place of a lost one. A crash at any moment leaves no record without
+-- its floor.
 use Rattle.std.specs.Prelude.{◌≡◌, ◌⊎◌, ℕ, ◌+◌, List, [], ◌∷◌, ◌++◌, length}
 use Rattle.site_disk.specs.Model.{DiskState, LeavesOnly}
 use Rattle.durable.specs.Append.{IsSettled}
@@ -12,24 +12,24 @@ use Rattle.durable.specs.Standing.{StandsFor, IsNoRecord}
 abbrev pub blank_head : ℕ → ℕ → List ℕ
 blank_head node cluster = 0 ∷ 0 ∷ 0 ∷ 0 ∷ 0 ∷ 0 ∷ 0 ∷ 0 ∷ node ∷ cluster ∷ []
 
--- a batch of the floor alone: its sum, the floor after its open gate; then a closed gate
+-- a batch with only the floor: its sum, then the floor after its open gate; then a closed gate
 abbrev pub floor_bytes : ℕ → List ℕ
 floor_bytes floor = summed (blocks (Floor floor ∷ [])) ++ 0 ∷ []
 
--- the file is no record yet, or that of the floor alone
+-- the file is no record yet, or the record with only the floor
 abbrev pub IsNoneOrFloor : ℕ → ℕ → ℕ → List ℕ → Type 0
 IsNoneOrFloor node cluster floor file = IsNoRecord file ⊎ StandsFor node cluster file (Floor floor ∷ [])
 
--- The file was empty, and is the head and the floor now, all of it on the disk, after three writes and a sync
--- after each. A crash at any moment since then leaves no record, or that of the floor alone.
+-- The file was empty, and is now the head and the floor, all on the disk, after three writes with a sync
+-- after each. A crash at any moment since then leaves no record, or the record with only the floor.
 abbrev pub FormatsAbove : {D : Type 0} → (D → DiskState → Type 0) → D → D → ℕ → ℕ → ℕ → Type 0
 FormatsAbove stands_for old new node cluster floor = (d : DiskState) → stands_for old d
     → (d.seen ≡ []) × (e : DiskState) × stands_for new e × IsSettled e
     × (e.seen ≡ head node cluster ++ floor_bytes floor) × StandsFor node cluster e.seen (Floor floor ∷ [])
     × LeavesOnly d e (IsNoneOrFloor node cluster floor) × (length e.past ≡ 6 + length d.past)
 
--- The device failed as an empty file was made that record. A crash at any moment since then leaves no record,
--- or that of the floor alone, and so does none.
+-- The device failed as an empty file was made that record. The file is no record, or the record with only the
+-- floor, without a crash and after a crash at any moment since then.
 abbrev pub FormatsInPart : {D : Type 0} → (D → DiskState → Type 0) → D → D → ℕ → ℕ → ℕ → Type 0
 FormatsInPart stands_for old new node cluster floor = (d : DiskState) → stands_for old d → d.seen ≡ []
     → (e : DiskState) × stands_for new e × LeavesOnly d e (IsNoneOrFloor node cluster floor)

@@ -15,7 +15,7 @@ GoesOnAs before file = (more : List ℕ) × (file ≡ before ++ more)
 abbrev pub with_zeros : List ℕ → ℕ → List ℕ
 with_zeros file size = file ++ replicate (size - length file) 0
 
--- how long the file is that has this much room after the gate, or less at the greatest length of a record
+-- how long a file with this much room after the gate is; at most the greatest length of a record
 abbrev pub length_for : ℕ → ℕ → ℕ
 length_for gate room = min MAX_RECORD (gate + room)
 

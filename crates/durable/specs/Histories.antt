@@ -21,10 +21,10 @@ IsInRange n (Floor f) = IsInstance f
 abbrev pub IsAbove : List Entry → ℕ → BallotOf → Type 0
 IsAbove earlier i b = (e : Entry) (c : BallotOf) → In earlier e → Raises e i c → Below c b
 
--- A round is above the last one, a promise above each ballot raised at its instance, that of a span at one of
--- its instances at least. A vote is below none of them, and not at the ballot of the last vote there. A value
--- is learned once at an instance, whatever is voted for there before or after it: a later vote may be for
--- another value. A floor stands before all other entries.
+-- A round is above the last one. A promise is above each ballot raised at its instance; that of a span at one
+-- of its instances at least. A vote is below none of them, and not at the ballot of the last vote there. A
+-- value is learned once at an instance, whatever is voted for there before or after: a later vote may be for
+-- another value. A floor comes before all other entries.
 abbrev pub Advances : List Entry → Entry → Type 0
 Advances earlier (Round r) = last_round earlier < r
 Advances earlier (Promised i b) = IsAbove earlier i b

@@ -19,7 +19,7 @@ abbrev pub entries_of : List Item → List Entry
 entries_of [] = []
 entries_of (item ∷ items) = entries_in item ++ entries_of items
 
--- entries of which each is an item
+-- the entries, each as an item
 abbrev pub puts : List Entry → List Item
 puts [] = []
 puts (entry ∷ entries) = Put entry ∷ puts entries
@@ -28,8 +28,7 @@ puts (entry ∷ entries) = Put entry ∷ puts entries
 abbrev pub sum_of : List ℕ → List ℕ
 sum_of bytes = take 8 (md5 bytes)
 
--- an open gate and a sum: the length of what follows, the kind, of how many of the next bytes it is the sum,
--- the sum
+-- an open gate and a sum: the length of what follows, the kind, how many of the next bytes it sums, the sum
 abbrev pub sum_front : ℕ → List ℕ → List ℕ
 sum_front size sum = 1 ∷ 0 ∷ 0 ∷ 0 ∷ 13 ∷ 24 ∷ big_bytes 4 size ++ sum
 

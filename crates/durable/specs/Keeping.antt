@@ -15,8 +15,7 @@ abbrev pub IsFound : ℕ → ℕ → List Entry → Option Entry → List ℕ �
 IsFound node cluster entries in_flight file = (found : List Entry) × Settles entries in_flight found
     × StandsFor node cluster file found
 
--- the disk keeps the entries and perhaps the one in flight: so it reads without a crash, and so after any
--- crash
+-- the disk keeps the entries and perhaps the one in flight: that is read without a crash, and after any crash
 pub record Keeps (node cluster : ℕ) (entries : List Entry) (in_flight : Option Entry)
     (d : DiskState) : Type 0 where
   pub read : IsFound node cluster entries in_flight d.seen

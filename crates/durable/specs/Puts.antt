@@ -1,4 +1,4 @@
--- What a put of one entry answers, and what stands after it.
+-- What a put of one entry returns, and what is on record after it.
 use Rattle.std.specs.Prelude.{◌≡◌, ◌≢◌, ◌⊎◌, ◌↔◌, ℕ, ◌+◌, ◌-◌, ◌<◌, ◌^◌, max, List, [], ◌∷◌, ◌++◌, length}
 use Rattle.std.specs.Prelude.{false, true, Some, Result, OnOk, OnErr, IsErrOf}
 use Rattle.site_ids.specs.declared.TheConstants.{MAX_RECORD}
@@ -22,15 +22,15 @@ use Rattle.durable.specs.declared.record.Record.{Record}
 use Rattle.durable.specs.declared.recorded.Recorded.{Recorded}
 use Rattle.durable.specs.declared.slots.Slots.{Slots}
 
--- of every instance the slot and what was learned are as before
+-- the slot and the learned value of every instance are as before
 abbrev pub AreSlotsKept : Slots → Slots → Type 0
 AreSlotsKept old new = (i : ℕ) → cell_at new i ≡ cell_at old i
 
--- of every other instance they are
+-- those of every other instance are as before
 abbrev pub AreOthersKept : ℕ → Slots → Slots → Type 0
 AreOthersKept j old new = (i : ℕ) → i ≢ j → cell_at new i ≡ cell_at old i
 
--- the slots, and what was learned, after one entry more
+-- the slots, and what was learned, after one more entry
 abbrev pub AreSlotsAfter : Entry → Slots → Slots → Type 0
 AreSlotsAfter (Round r) old new = AreSlotsKept old new
 AreSlotsAfter (Promised j b) old new =
@@ -45,7 +45,7 @@ AreSlotsAfter (Learned j v) old new = (cell_at new j ≡ record (cell_at old j) 
     × AreOthersKept j old new
 AreSlotsAfter (Floor f) old new = AreSlotsKept old new
 
--- what is kept in memory after one entry more
+-- what is kept in memory after one more entry
 pub record Remembers (old new : Recorded) (entry : Entry) : Type 0 where
   pub round : new.round ≡ round_after old.round (entry ∷ [])
   pub greatest : new.greatest ≡ max old.greatest (round_in entry)
@@ -62,7 +62,7 @@ pub record IsMemoryKept (old new : Recorded) : Type 0 where
   pub reach : new.reach ≡ old.reach
 
 -- The bytes were appended after the gate. If they are an entry's, the file stands for it too, after two
--- writes and two syncs, and a crash at any moment since then leaves the entries, with it or without it.
+-- writes and two syncs. A crash at any moment since then leaves the entries, with it or without it.
 abbrev pub Appends : {D : Type 0} → (D → DiskState → Type 0) → Record D → Record D → List ℕ → Type 0
 Appends stands_for old new bytes = (d : DiskState) (entries : List Entry) (entry : Entry)
     → IsStored stands_for old d entries → MayFollow old.cluster entries entry → bytes ≡ behind_gate entry
@@ -70,7 +70,7 @@ Appends stands_for old new bytes = (d : DiskState) (entries : List Entry) (entry
     × LeavesOnly d e (IsFound old.node old.cluster entries (Some entry))
     × (length e.past ≡ 4 + length d.past) × IsOpenAt old.recorded.gate d.seen (behind_gate entry) e.seen
 
--- An append of the bytes was cut short. Where they are an entry's, it is in flight.
+-- An append of the bytes was cut short. If they are an entry's, it is in flight.
 abbrev pub BreaksOff : {D : Type 0} → (D → DiskState → Type 0) → Record D → Record D → List ℕ → Type 0
 BreaksOff stands_for old new bytes = (d : DiskState) (entries : List Entry) (entry : Entry)
     → IsStored stands_for old d entries → MayFollow old.cluster entries entry → bytes ≡ behind_gate entry
@@ -79,8 +79,8 @@ BreaksOff stands_for old new bytes = (d : DiskState) (entries : List Entry) (ent
     × Keeps old.node old.cluster entries (Some entry) e
 
 -- The bytes were written after the gate, to the disk or to the batch that is open: if they are an entry's,
--- the one or the other has it. Of what is kept in memory the gate alone changes. A device that fails stops
--- the record and is counted; allocation fails only for a batch.
+-- the disk or the batch has it. Of what is kept in memory only the gate changes. A device that fails stops
+-- the record and is counted; only for a batch an allocation can fail.
 pub record Writes {D : Type 0} (stands_for : D → DiskState → Type 0) (failed : D → ℕ) (old new : Record D)
     (bytes : List ℕ) (result : Result (Unit {0}) RecordFault) : Type 0 where
   pub appends : OnOk result (Appends stands_for old new bytes)
@@ -106,8 +106,8 @@ pub record IsPut {D : Type 0} (failed : D → ℕ) (old new : Record D) (entry :
   pub running : new.stopped ≡ false
   pub none_failed : failed new.disk ≡ failed old.disk
 
--- A put of the entry has succeeded: the record is ready with one entry more, after two writes and two syncs;
--- at the gate stand the entry and the next closed gate. A crash at any moment since then leaves the entries,
+-- A put of the entry has succeeded: the record is ready with one more entry, after two writes and two syncs.
+-- At the gate are the entry and the next closed gate. A crash at any moment since then leaves the entries,
 -- with the new one or without it.
 abbrev pub Acknowledges : {D : Type 0} → (D → DiskState → Type 0) → Record D → Record D → Entry → Type 0
 Acknowledges stands_for old new entry = (d : DiskState) (entries : List Entry)
@@ -116,8 +116,8 @@ Acknowledges stands_for old new entry = (d : DiskState) (entries : List Entry)
     × LeavesOnly d e (IsFound old.node old.cluster entries (Some entry))
     × (length e.past ≡ 4 + length d.past) × IsOpenAt old.recorded.gate d.seen (behind_gate entry) e.seen
 
--- A put of the entry has failed by the device: the entry is in flight. A crash at any moment since then
--- leaves the entries with it or without it, and so does none.
+-- A put of the entry has failed because the device failed: the entry is in flight. The entries stay, with it
+-- or without it, without a crash and after a crash at any moment since then.
 abbrev pub LeavesInFlight : {D : Type 0} → (D → DiskState → Type 0) → Record D → Record D → Entry → Type 0
 LeavesInFlight stands_for old new entry = (d : DiskState) (entries : List Entry)
     → IsReady stands_for old d entries
@@ -125,8 +125,8 @@ LeavesInFlight stands_for old new entry = (d : DiskState) (entries : List Entry)
     × LeavesOnly d e (IsFound old.node old.cluster entries (Some entry))
     × Keeps old.node old.cluster entries (Some entry) e
 
--- A put of the entry was cut short by the device, whose failure is counted: the record stops, and the entry
--- is in flight.
+-- The device failed in a put of the entry, and the failure is counted: the record stops, and the entry is in
+-- flight.
 pub record IsCutShort {D : Type 0} (stands_for : D → DiskState → Type 0) (failed : D → ℕ) (old new : Record D)
     (entry : Entry) : Type 0 where
   pub follows : (entries : List Entry) → IsKept entries old.recorded → MayFollow old.cluster entries entry

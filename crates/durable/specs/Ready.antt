@@ -30,7 +30,7 @@ pub record IsReady {D : Type 0} (stands_for : D → DiskState → Type 0) (store
   pub stored : IsStored stands_for store d entries
   pub kept : IsKept entries store.recorded
 
--- only room for a slot, or for what waits in a batch, has changed, which cannot be seen
+-- at most the room for a slot, or for what waits in a batch, has changed, which cannot be seen
 pub record IsUnchanged {D : Type 0} (old new : Record D) : Type 0 where
   pub same : new ≡ record old {
     recorded = record old.recorded { slots = new.recorded.slots };
@@ -40,8 +40,8 @@ pub record IsUnchanged {D : Type 0} (old new : Record D) : Type 0 where
   pub base : new.staged.base ≡ old.staged.base
   pub slots : (i : ℕ) → cell_at new.recorded.slots i ≡ cell_at old.recorded.slots i
 
--- what a record that was opened keeps in memory is what these entries record, over any disk; and of each
--- state that the disk stood for, they are the entries of its file
+-- what an opened record keeps in memory is what these entries record, over any disk; if the disk stood for a
+-- state, they are the entries of its file
 pub record IsOpened {D : Type 0} (stands_for : D → DiskState → Type 0) (disk : D) (store : Record D)
     (entries : List Entry) : Type 0 where
   pub history : IsHistory store.cluster entries

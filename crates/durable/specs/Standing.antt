@@ -35,8 +35,8 @@ IsOfAnother node cluster file = (slice_index file 8 ≢ node) ⊎ (slice_index f
 abbrev pub IsDamaged : ℕ → ℕ → List ℕ → Type 0
 IsDamaged node cluster file = (entries : List Entry) → ¬ StandsFor node cluster file entries
 
--- the first refusal that applies to the file. The device and memory may fail at any file; full and stopped
--- are none of an opening's
+-- the first refusal that applies to the file. The device or an allocation may fail for any file; an opening
+-- never fails with full or stopped
 abbrev pub IsRefusal : RecordFault → ℕ → ℕ → List ℕ → Type 0
 IsRefusal NotARecord node cluster file = IsNoRecord file
 IsRefusal WrongNode node cluster file = (¬ IsNoRecord file) × IsOfAnother node cluster file

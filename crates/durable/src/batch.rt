@@ -1,6 +1,6 @@
-//! A batch of entries, which stand on the disk together or not at all.
+//! A batch of entries, which are all on the disk together or not at all.
 //!
-//! Each put allocates for its own entry. If another batch is begun, the open one stays.
+//! Each put allocates for its own entry. A batch that is open stays open if another one is begun.
 
 ghost use Rattle.std.specs.Prelude.{◌≡◌, ◌⊎◌, ◌↔◌, ◌+◌, ◌-◌, ◌<◌, ◌≤◌, ◌^◌, ◌∷◌, [], IsOk, IsErrOf, OnOk};
 ghost use Rattle.std.specs.Prelude.{OnErr, length, false, true};
@@ -15,8 +15,8 @@ impl<D: Disk> Record<D> {
     ghost use Rattle.durable.specs.Batches.{IsBatchOpen, Begins, Stages, Seals, LeavesBatch};
     ghost use Rattle.durable.specs.Ready.{IsUnchanged};
 
-    /// Opens a batch: from now until it is sealed, a put takes its entry into memory alone, and nothing of it
-    /// may be told. A batch that is open stays as it is.
+    /// Opens a batch. Until it is sealed, a put takes its entry into memory only, and the node may send
+    /// nothing that depends on it. A batch that is open stays as it is.
     pub fn begin(&mut self) -> Result<(), RecordFault>
         ensures begun { OnOk result (Begins D.stands_for self.old self.new) }
         ensures open { OnOk result (IsBatchOpen self.new
@@ -36,9 +36,9 @@ impl<D: Disk> Record<D> {
         Ok(())
     }
 
-    /// Has all of a batch stand on the disk, and closes it; without entries it makes no call of the disk, and
-    /// it takes no memory. A device that fails leaves all of the batch there or none of it: the record stops,
-    /// its memory stays ahead of the disk, and only the next opening tells.
+    /// Puts all of a batch on the disk, and closes it. Without entries it makes no call of the disk, and it
+    /// does not allocate. If the device fails, all of the batch is on the disk or none of it: the record
+    /// stops, its memory stays ahead of the disk, and only the next opening shows which.
     pub fn seal(&mut self) -> Result<(), RecordFault>
         ensures sealed { OnOk result (Seals D.stands_for self.old self.new) }
         ensures closed { OnOk result ((self.new.staged.bytes.items ≡ []) × (self.new.stopped ≡ false)

@@ -1,5 +1,5 @@
-//! The cells of instances: those from instance 1 on are in a vector, up to the first that is missing, and the
-//! others in a map.
+//! The cells of instances. Those from instance 1 on, up to the first that is missing, are in a vector; the
+//! others are in a map.
 
 ghost use Rattle.std.specs.Prelude.{◌≡◌, ◌≢◌, ◌+◌, ◌≤◌, ℕ, None, Some, OnOk, OnErr, vec_len, vec_capacity};
 ghost use Rattle.std.specs.BTreeMap.{btree_map_len};

@@ -55,8 +55,8 @@ fn has_batch_after<D: Disk>(
 /// Whether an accident shut the gate at which a record of `len` bytes ends: a batch with its right sum
 /// follows, and another open gate.
 ///
-/// The gate is read after these. So what a node writes to its file meanwhile is no accident: the node has
-/// opened this gate by then.
+/// The gate is read after these. So what a node writes to its file meanwhile is not taken for an accident:
+/// the node has opened this gate by then.
 pub(crate) fn is_cut_short<D: Disk>(
     alloc: Global,
     disk: &mut D,

@@ -20,7 +20,7 @@ pub enum RecordFault {
     Full,
     #[error("the record is damaged")]
     Damaged,
-    /// From a failure of the device until it is opened again.
+    /// A device failed, and the record was not opened again since.
     #[error("the record has stopped")]
     Stopped,
 }

@@ -40,8 +40,8 @@ fn write_blank<D: Disk>(cluster: Cluster, node: NodeId, disk: &mut D) -> Result<
 }
 
 impl<D: Disk> Record<D> {
-    /// Makes the record of a floor alone on an empty disk, for a node whose record was lost. A crash within
-    /// it leaves a file that is no record, or this one: never a record without the floor.
+    /// Makes a record with only a floor on an empty disk, for a node whose record was lost. A crash meanwhile
+    /// leaves a file that is no record, or this record: never a record without the floor.
     pub fn format_above(
         cluster: Cluster,
         node: NodeId,

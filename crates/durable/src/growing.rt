@@ -23,8 +23,8 @@ fn zeros(alloc: Global, count: usize) -> Result<Vec<u8>, AllocError>
     Ok(bytes)
 }
 
-/// Writes zeros after the end of the file up to this length, and syncs. `false` if there is no room for all
-/// of them, on the disk or in memory.
+/// Writes zeros after the end of the file up to this length, and syncs. Returns `false` if there is no room
+/// for all of them, on the disk or in memory.
 fn lengthen<D: Disk>(alloc: Global, disk: &mut D, size: u64) -> Result<bool, DiskFailed>
     ensures done { IfOk result (λ there. (d : DiskState) → D.stands_for disk.old d → IsSettled d
         → (e : DiskState) × D.stands_for disk.new e × IsSettled e × LeavesOnly d e (GoesOnAs d.seen)
@@ -51,11 +51,11 @@ impl<D: Disk> Record<D> {
     ghost use Rattle.durable.specs.Batches.{IsBatchOpen};
     ghost use Rattle.durable.specs.Growing.{Grows, KeepsAll};
 
-    /// Has the file reach `room` bytes past the gate, and answers whether it does. Missing bytes are written
-    /// as zeros, and synced. What the record says stays as it is, at any moment of a crash too.
+    /// Makes the file reach `room` bytes past the gate, and returns whether it does. Missing bytes are
+    /// written as zeros, and synced. The record's entries stay as they are, also after a crash at any moment.
     ///
-    /// Want of room on the disk or in memory is no fault, and the answer is `false`. So it is while a batch
-    /// is open. A device that fails stops the record.
+    /// If the disk or memory has no room, that is no fault: the result is `false`. It is also `false` while a
+    /// batch is open. If the device fails, the record stops.
     pub fn grow(&mut self, room: u64) -> Result<bool, RecordFault>
         ensures grown { IfOk result (λ there.
             Grows D.stands_for self.old self.new (length_for self.old.recorded.gate room) there) }

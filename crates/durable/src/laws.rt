@@ -7,8 +7,8 @@ pub fn files_stand_for_one_list()
     ensures { OneList }
 {}
 
-/// A disk at rest keeps what it reads as. A crash, and an opening without one, settle whether the entry in
-/// flight stands.
+/// A disk at rest keeps exactly the entries that are read from it. A crash, and an opening without one,
+/// settle whether the entry in flight is on record.
 pub fn in_flight_settles()
     ensures rest { SettledKeeps }
     ensures crash { CrashSettles }
@@ -21,8 +21,8 @@ pub fn kept_records_open()
     ensures { NeverRefused }
 {}
 
-/// An opening, or a crash, settles whether the batch stands that a device cut short as it was sealed: all of
-/// it or none. No such disk is refused for its bytes.
+/// If a device fails while a batch is sealed, an opening or a crash settles whether the batch is on record:
+/// all of it or none. No such disk is refused for its bytes.
 pub fn batches_settle()
     ensures opening { OpeningSettlesBatch }
     ensures crash { CrashSettlesBatch }
@@ -30,8 +30,8 @@ pub fn batches_settle()
     ensures refused { NeverRefusedBatch }
 {}
 
-/// What a format above a floor leaves, whole or cut short, is opened with that floor and nothing else, or not
-/// at all.
+/// A file that a format above a floor leaves, whole or cut short, is opened with that floor and nothing else,
+/// or not at all.
 pub fn floors_stay()
     ensures { FloorStays }
 {}

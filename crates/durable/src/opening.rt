@@ -18,7 +18,7 @@ use site_disk::Disk;
 use site_ids::{Cluster, NodeId};
 use std::alloc::Global;
 
-// Syncs, and then reads the head, and gives the length of the file.
+// Syncs, and then reads the head. Returns the length of the file.
 fn read_head<D: Disk>(cluster: Cluster, node: NodeId, disk: &mut D) -> Result<u64, RecordFault>
     ensures read { IfOk result (λ len. (d : DiskState) → D.stands_for disk.old d
         → D.stands_for disk.new (after_sync d) × HasHead node cluster d.seen × (len ≡ length d.seen)) }
@@ -46,7 +46,7 @@ fn read_head<D: Disk>(cluster: Cluster, node: NodeId, disk: &mut D) -> Result<u6
     Ok(len)
 }
 
-/// Syncs, and then reads the record. The answer also says whether an accident shut the gate after its
+/// Syncs, and then reads the record. The result also says whether an accident shut the gate after its
 /// entries.
 pub(crate) fn read<D: Disk>(
     alloc: Global,
@@ -72,8 +72,7 @@ pub(crate) fn read<D: Disk>(
 }
 
 /// Syncs, and then finds the byte from which on a record is damaged; `None` if it is whole. That byte is the
-/// gate of a batch whose sum is wrong, or of bytes that no node wrote, or it is the gate that an accident
-/// shut.
+/// gate of a batch whose sum is wrong, or of bytes that no node wrote, or the gate that an accident shut.
 pub fn damage<D: Disk>(
     alloc: Global,
     cluster: Cluster,

@@ -1,4 +1,4 @@
-//! What stands at a gate.
+//! What is at a gate.
 
 ghost use Rattle.std.specs.Prelude.{◌≡◌, ◌≢◌, ◌<◌, ◌≤◌, ◌^◌, ℕ, ◌∷◌, ◌++◌, MatchOption};
 ghost use Rattle.byteorder.specs.Endian.{big_bytes};
@@ -12,7 +12,7 @@ ghost use Rattle.durable.specs.Reading.{IsNext, meaning};
 
 use site_ids::{Ballot, Cluster, Instance, MAX_VALUE};
 
-/// An entry, whose value still stands in the file's bytes.
+/// An entry, whose value is still in the file's bytes.
 #[derive(Clone, Copy)]
 pub(crate) enum EntryRef<'a> {
     Round(u32),
@@ -23,7 +23,7 @@ pub(crate) enum EntryRef<'a> {
     Floor(Instance),
 }
 
-/// What stands at a gate.
+/// What is at a gate.
 pub(crate) enum Next<'a> {
     /// The gate isn't open.
     End,
@@ -139,7 +139,7 @@ fn entry_of(payload: &[u8], cluster: Cluster) -> Option<EntryRef<'_>>
     }
 }
 
-/// What stands at a gate, in the bytes from it on.
+/// What is at a gate, in the bytes from it on.
 pub(crate) fn next_entry(bytes: &[u8], cluster: Cluster) -> Next<'_>
     ensures { IsNext cluster bytes.now result }
 {

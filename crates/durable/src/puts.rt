@@ -1,6 +1,6 @@
 //! Putting one entry more on record.
 //!
-//! `stopped` is set before the first write, so no exit forgets it; Full goes by the gate's place.
+//! `stopped` is set before the first write, so no exit forgets it. The place of the gate decides `Full`.
 
 ghost use Rattle.std.specs.Prelude.{◌≡◌, ◌⊎◌, ◌↔◌, ℕ, ◌+◌, ◌≤◌, ◌<◌, ◌^◌, IsErrOf, OnOk, OnErr, length};
 ghost use Rattle.std.specs.Prelude.{false, true, None};
@@ -22,8 +22,8 @@ impl<D: Disk> Record<D> {
     ghost use Rattle.durable.specs.Puts.{Puts, Writes, Appends, BreaksOff};
     ghost use Rattle.durable.specs.Slots.{slot_at, value_at};
 
-    /// Records a round. At `Ok` it is on the disk, or in the batch that is open. Where none is, it takes no
-    /// memory.
+    /// Records a round. At `Ok` it is on the disk, or in the batch that is open. Without an open batch it
+    /// does not allocate.
     pub fn put_round(&mut self, round: u32) -> Result<(), RecordFault>
         requires { self.old.recorded.round < round }
         ensures put { Puts D.stands_for D.failed self.old self.new (Round round) result }
@@ -48,8 +48,8 @@ impl<D: Disk> Record<D> {
         Ok(())
     }
 
-    /// Records the promise of a span, which raises that of one of its instances at least. At `Ok` it is on
-    /// the disk, or in the batch that is open.
+    /// Records the promise of a span, which raises the promise of at least one of its instances. At `Ok` it
+    /// is on the disk, or in the batch that is open.
     pub fn put_promise_span(
         &mut self,
         first: Instance,
@@ -124,7 +124,7 @@ impl<D: Disk> Record<D> {
         Ok(())
     }
 
-    // Writes an entry's bytes after the gate: into the batch that is open, else to the disk.
+    // Writes an entry's bytes after the gate: into the batch that is open, or else to the disk.
     fn write(&mut self, bytes: &[u8]) -> Result<(), RecordFault>
         requires running { self.old.stopped ≡ false }
         requires near { self.old.recorded.gate + length bytes.now < 2 ^ 63 }
@@ -137,7 +137,7 @@ impl<D: Disk> Record<D> {
         }
     }
 
-    // Appends an entry. The record is stopped while it does, and from a failure on.
+    // Appends an entry. The record is stopped meanwhile, and stays so after a failure.
     fn append(&mut self, bytes: &[u8]) -> Result<(), DiskFailed>
         requires { self.old.recorded.gate + length bytes.now < 2 ^ 63 }
         ensures done { OnOk result (Appends D.stands_for self.old self.new bytes.now) }

@@ -29,7 +29,7 @@ const PIECE: u64 = 1_048_576;
 // The longest block of an entry, and the next gate.
 const MAX_BLOCK: usize = 32_784;
 
-/// What stood at a gate.
+/// What was at a gate.
 pub(crate) enum Taken {
     /// An item of that many bytes, which was taken.
     Whole(usize),
@@ -89,8 +89,8 @@ fn make_room(buffer: &mut Vec<u8>, least: usize, len: u64) -> Result<(), AllocEr
     Ok(())
 }
 
-// Takes the items that stand whole in a piece. The answer is how long the next piece has to be, or `None` if
-// a gate that isn't open ended them.
+// Takes the items that are whole in a piece. Returns how long the next piece has to be, or `None` if a gate
+// that isn't open ended them.
 fn take_piece(
     alloc: Global,
     piece: &[u8],
@@ -122,7 +122,7 @@ fn take_piece(
     Ok(Some(MAX_BLOCK))
 }
 
-// Takes what stands at a gate.
+// Takes what is at a gate.
 fn take_item(
     alloc: Global,
     bytes: &[u8],
@@ -179,7 +179,7 @@ fn take_put(
     }
 }
 
-// Takes a batch whose sum stands at a gate.
+// Takes a batch whose sum is at a gate.
 fn take_summed(
     alloc: Global,
     bytes: &[u8],
@@ -247,7 +247,7 @@ fn take_batch(
     Ok(())
 }
 
-// Takes the entry at a gate. The answer is how long its block is, or `None` if the gate isn't open.
+// Takes the entry at a gate. Returns how long its block is, or `None` if the gate isn't open.
 fn take_entry(
     alloc: Global,
     bytes: &[u8],

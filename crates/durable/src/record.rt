@@ -1,7 +1,7 @@
 //! The record of a node over a disk.
 //!
-//! Callers owe that a ballot's node is of the `cluster`; no test stands at 4,294,967,295 bytes; `Puts.full`
-//! says it.
+//! Callers have to pass ballots whose node is of the `cluster`. No test reaches 4,294,967,295 bytes;
+//! `Puts.full` says what happens there.
 
 ghost use Rattle.std.specs.Prelude.{◌≡◌, ◌↔◌, ◌⊎◌, ◌+◌, ◌-◌, ◌≤◌, ◌<◌, ◌^◌, ◌∷◌, ◌++◌, [], ℕ, List, Option};
 ghost use Rattle.std.specs.Prelude.{option_copied, IsTrue, IsErrOf, OnOk, OnErr, IfOk, IfErr, length, false};
@@ -33,11 +33,11 @@ pub struct Record<D> {
     pub(crate) node: NodeId,
     pub(crate) cluster: Cluster,
     pub(crate) recorded: Recorded,
-    // from a failure of the device on
+    // set after the device has failed
     pub(crate) stopped: bool,
     // the batch that is open, if one is
     pub(crate) staged: Staged,
-    // as it was opened
+    // whether it was cut short when it was opened
     pub(crate) cut_short: bool,
 }
 
@@ -56,7 +56,7 @@ impl<D: Disk> Record<D> {
     ghost use Rattle.durable.specs.Ready.{IsOpened};
     ghost use Rattle.durable.specs.Slots.{slot_at, value_at};
 
-    /// Makes an empty record of a node of a cluster on an empty disk. A crash within it may leave a file that
+    /// Makes an empty record of a node of a cluster on an empty disk. A crash meanwhile may leave a file that
     /// is no record.
     pub fn format(cluster: Cluster, node: NodeId, disk: &mut D) -> Result<(), RecordFault>
         ensures formatted { OnOk result ((d : DiskState) → D.stands_for disk.old d → (d.seen ≡ [])
@@ -79,7 +79,7 @@ impl<D: Disk> Record<D> {
         Ok(disk.sync()?)
     }
 
-    /// Reads a record, after a sync. A refusal gives the disk back.
+    /// Reads a record, after a sync. A refusal returns the disk.
     pub fn open(
         alloc: Global,
         cluster: Cluster,
@@ -152,16 +152,16 @@ impl<D: Disk> Record<D> {
         self.recorded.floor
     }
 
-    /// How far it reaches: the greatest instance of a vote, or the floor if that is greater; or 0 if there
-    /// are neither.
+    /// How far it reaches: the greatest instance of a vote, or the floor if that is greater; 0 if there is
+    /// neither.
     pub fn reach(&self) -> u32
         ensures { result ≡ self.now.recorded.reach }
     {
         self.recorded.reach
     }
 
-    /// Whether an accident had shut the gate at which the record ended when it was opened: a batch with its
-    /// right sum followed, and another open gate, and none of that was read.
+    /// Whether an accident had shut the gate at which the record ended when it was opened. Then a batch with
+    /// its right sum followed, and another open gate, and none of that was read.
     pub fn is_cut_short(&self) -> bool
         ensures { result ≡ self.now.cut_short }
     {
@@ -197,14 +197,14 @@ impl<D: Disk> Record<D> {
         payload <= MAX_RECORD - 6 && self.recorded.gate <= MAX_RECORD - 6 - payload
     }
 
-    /// How many bytes of the file it takes, the gate at its end not counted.
+    /// How many bytes of the file it takes, not counting the gate at its end.
     pub fn bytes(&self) -> u64
         ensures { result ≡ self.now.recorded.gate }
     {
         self.recorded.gate
     }
 
-    /// Gives the disk back, without the entries of a batch that is open.
+    /// Returns the disk, without the entries of a batch that is open.
     pub fn close(self) -> D
         ensures { result ≡ self.disk }
     {
@@ -223,7 +223,7 @@ impl<D: Disk> Record<D> {
 }
 
 impl<D: Armed> Record<D> {
-    /// Hands the arming on to the disk.
+    /// Passes the arming on to the disk.
     pub fn arm(&mut self, calls: u32)
         ensures disk { (d : DiskState) → D.Disk.stands_for self.old.disk d
             → D.Disk.stands_for self.new.disk d }

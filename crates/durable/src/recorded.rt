@@ -1,6 +1,6 @@
 //! What the entries of a file record.
 //!
-//! The acceptor's judges say what an entry must advance, on reading too.
+//! The judges of the acceptor say what an entry must advance, also when it is read.
 
 ghost use Rattle.std.specs.Prelude.{◌≡◌, ℕ, [], IfOk};
 ghost use Rattle.durable.specs.Entries.{Round, Promised, PromisedSpan, Voted, Learned, Floor};
@@ -36,7 +36,7 @@ impl Recorded {
     ghost use Rattle.durable.specs.Reading.{IsKept, Takes, meaning};
     ghost use Rattle.durable.specs.Slots.{IsThere};
 
-    /// Of no entries.
+    /// Nothing is recorded.
     pub(crate) fn new(alloc: Global) -> Recorded
         ensures gate { result.gate ≡ 10 }
         ensures kept { IsKept [] result }
@@ -110,7 +110,7 @@ impl Recorded {
         self.reach = self.reach.max(floor.number());
     }
 
-    /// Takes one entry more, if it advances those before it.
+    /// Takes one more entry, if it advances those before it.
     pub(crate) fn take(&mut self, alloc: Global, entry: EntryRef<'_>) -> Result<(), RecordFault>
         requires { IsSpanned (meaning entry) }
         ensures { Takes (meaning entry.entry) self.old self.new result }
@@ -178,8 +178,8 @@ impl Recorded {
         Ok(())
     }
 
-    /// These bytes as a value. If the last vote there is for them, the value shares the vote's bytes, so that
-    /// they are in memory once.
+    /// These bytes as a value. If the last vote at the instance is for them, the value shares the vote's
+    /// bytes, so that they are in memory once.
     fn shared_value(
         &self,
         alloc: Global,

@@ -19,7 +19,7 @@ use site_ids::{Ballot, Instance, Value, Vote};
 use std::alloc::{AllocError, Global};
 use std::collections::BTreeMap;
 
-/// The cells in which something stands, and perhaps empty ones.
+/// The cells in which something is kept, and perhaps empty ones.
 #[derive(Drop)]
 pub(crate) struct Slots {
     /// The cells of the instances from 1 on, up to the first one that has none.
@@ -115,7 +115,7 @@ impl Slots {
         Ok(())
     }
 
-    /// The ballot is above the promise of an instance of the span, or none stands there.
+    /// Whether the ballot is above the promise of some instance of the span, or some instance has no promise.
     pub(crate) fn rises(&self, first: Instance, count: u8, ballot: Ballot) -> bool
         requires { IsSpan first count }
         ensures { IsTrue result ↔ ((at : ℕ) × IsInSpan first count at
@@ -142,7 +142,7 @@ impl Slots {
         }
     }
 
-    /// Raises the promise of an instance if it is below the ballot or none stands, and if there is room for
+    /// Raises the promise of an instance if it is below the ballot or there is none, and if there is room for
     /// the slot.
     fn raise(&mut self, at: Instance, ballot: Ballot)
         requires { IsThere self.old at }
@@ -156,7 +156,7 @@ impl Slots {
         }
     }
 
-    /// So each instance of a span.
+    /// Raises the promise of each instance of a span.
     pub(crate) fn promise_span(&mut self, first: Instance, count: u8, ballot: Ballot)
         requires span { IsSpan first count }
         requires room { (at : ℕ) → IsInSpan first count at → IsThere self.old at }

@@ -12,7 +12,7 @@ use std::alloc::{AllocError, Global};
 // How many bytes wait while a batch has no entry: room for a sum, and a closed gate.
 const EMPTY: usize = SUM_BLOCK + 1;
 
-// Writes what stands in front of the blocks of a batch.
+// Writes what comes before the blocks of a batch.
 fn write_front(bytes: &mut Vec<u8>, front: &[u8])
     requires { length front.now ≤ length bytes.old.items }
     ensures { bytes.new.items ≡ front.now ++ drop (length front.now) bytes.old.items }
@@ -20,7 +20,8 @@ fn write_front(bytes: &mut Vec<u8>, front: &[u8])
     bytes[0..front.len()].copy_from_slice(front);
 }
 
-/// What is written of a batch after the gate on the disk: the bytes from a place on, which end at a gate.
+/// What is written of a batch after the gate on the disk: the bytes from index `from` on, which end at a
+/// gate.
 pub(crate) struct Sealed {
     pub(crate) from: usize,
     pub(crate) end: u64,
@@ -60,7 +61,7 @@ impl Staged {
         self.bytes.len() > EMPTY
     }
 
-    // Whether a file has room for what waits, a sum among it.
+    // Whether a file has room for what waits, including a sum.
     fn fits_with_sum(&self) -> bool
         requires { 19 < length self.now.bytes.items }
         ensures { result ≡ not (nat_lt MAX_RECORD (self.now.base + length self.now.bytes.items)) }
@@ -82,8 +83,8 @@ impl Staged {
         write_front(&mut self.bytes, &front);
     }
 
-    /// Puts the sum in front of the blocks, if the file has room for it. The blocks end at the given gate
-    /// without one.
+    /// Puts the sum before the blocks, if the file has room for it. Without a sum the blocks end at the given
+    /// gate.
     pub(crate) fn seal(&mut self, gate: u64) -> Sealed
         requires { 19 < length self.old.bytes.items }
         ensures bytes { (blocks : List ℕ) → drop 18 self.old.bytes.items ≡ blocks ++ 0 ∷ []
@@ -124,8 +125,8 @@ impl Staged {
         Ok(())
     }
 
-    /// Takes an entry's bytes after the gate that ends those that wait. The first entry's stands at the given
-    /// gate of the disk.
+    /// Takes an entry's bytes, after the gate that ends those that wait. The first entry is at the given gate
+    /// of the disk.
     pub(crate) fn push(&mut self, gate: u64, bytes: &[u8]) -> Result<(), AllocError>
         requires open { 0 < length self.old.bytes.items }
         requires near { gate < 2 ^ 63 }

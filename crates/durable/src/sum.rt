@@ -1,8 +1,8 @@
 //! Sums of batches, by which a flipped bit is noticed.
 //!
-//! A sum is against accidents and not against forgers, so eight bytes of MD5 are enough. It comes before the
-//! bytes that it is of, with their number, so a flipped bit in one of their lengths hides nothing. Its kind,
-//! 24, differs from the kind of each entry in two bits at least.
+//! A sum guards against accidents and not against forgers, so eight bytes of MD5 are enough. It comes before
+//! the bytes that it sums, with their number, so a flipped bit in one of their lengths hides nothing. Its
+//! kind, 24, differs from the kind of each entry in at least two bits.
 
 ghost use Rattle.std.specs.Prelude.{◌≡◌, ◌↔◌, ◌+◌, ◌<◌, ◌^◌, IsTrue, MatchOption, length, take, slice_index};
 ghost use Rattle.durable.specs.Items.{sum_front, sum_of};
@@ -17,7 +17,7 @@ const SUM: usize = 8;
 /// How many bytes come before the blocks of a batch.
 pub(crate) const SUM_BLOCK: usize = 18;
 
-/// What comes before the blocks of a batch: how many bytes they are, and their sum.
+/// What comes before the blocks of a batch: their number of bytes, and their sum.
 #[derive(Clone, Copy)]
 pub(crate) struct Sum {
     pub(crate) size: usize,
@@ -46,7 +46,7 @@ pub(crate) fn sum_front(blocks: &[u8]) -> [u8; SUM_BLOCK]
 }
 
 impl Sum {
-    /// The sum at a gate, if one stands there.
+    /// The sum at a gate, if there is one.
     pub(crate) fn at(bytes: &[u8]) -> Option<Sum>
         ensures { MatchOption result (HasNoSum bytes.now) (λ s. IsSumAt bytes.now s.size s.sum) }
     {

@@ -26,7 +26,7 @@ pub record IsJudgement (slots : ℕ → Slot) (p i : ℕ) (b : BallotOf) (k : �
   pub rises : Rises judged told.rises
   pub answers : told.answers.items ≡ span_out p i b judged
 
--- the judgement has one instance more, whose answer comes after the answers before it
+-- the judgement has one more instance, whose answer comes after the answers before it
 pub record JudgesMore (slot : Slot) (p i : ℕ) (b : BallotOf) (old new : Judgement) : Type 0 where
   pub judged : Judged
   pub of_slot : judged.slot ≡ slot

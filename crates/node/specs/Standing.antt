@@ -31,7 +31,7 @@ use Rattle.node.specs.Waiting.{AreWaiting}
 
 -- ---- in memory, over any disk
 
--- the record keeps what these entries record. While it runs, no entry is in flight
+-- the record keeps what these entries record; while it runs, no entry is in flight
 pub record IsOnRecord {D : Type 0} (store : Record D) (n : ℕ) (mode : Mode) (entries : List Entry)
     (in_flight : Option Entry) : Type 0 where
   pub mode_is : mode ≡ (if store.stopped then Stopped else Up)
@@ -126,7 +126,7 @@ pub record IsEvent {D : Type 0} (stands_for : D → DiskState → Type 0) (old n
     (ending : Ending) (before after : List (To × Message)) : Type 0 where
   pub leads : (s : Node) → IsNodeOf old s → Leads stands_for old new call ending before after s
 
--- it is the same node of the same cluster, and what it published is the same
+-- the node and its cluster stay the same, and so does what it published
 pub record KeepsOthers {D : Type 0} (old new : Running D) : Type 0 where
   pub me : new.me ≡ old.me
   pub cluster : new.cluster ≡ old.cluster
@@ -144,7 +144,7 @@ pub record CountsDevice {T : Type 0} (result : Result T NodeFault) (before now :
   pub none : ¬ IsErrOf result fault.Device → now ≡ before
 
 -- what a call does: it is this event, as its result says; its failures are counted; it only adds messages;
--- and the node stays the same node
+-- and the node stays the same
 pub record TakesCall {D T : Type 0} (stands_for : D → DiskState → Type 0) (failed : D → ℕ)
     (old new : Running D) (call : Call) (result : Result T NodeFault)
     (before after : List (To × Message)) : Type 0 where

@@ -1,4 +1,4 @@
--- That a node that runs is never stuck.
+-- A node that runs is never stuck.
 use Rattle.std.specs.Prelude.{◌≡◌, ◌≢◌, ℕ}
 use Rattle.node.specs.declared.fault.NodeFault.{NodeFault}
 use Rattle.node.specs.declared.fault.NodeFault.TheVariants.{OutOfMemory}
@@ -8,9 +8,9 @@ use Rattle.node.specs.Effects.{Effect}
 use Rattle.node.specs.Endings.{MayRefuse}
 use Rattle.node.specs.Tidy.{IsTidy}
 
--- That a call is not stuck is said as a contradiction: no excluded middle is assumed.
+-- A contradiction says that a call is not stuck: no excluded middle is assumed.
 
--- nothing can come of the call except a failed allocation: it has no effect, and no other cause to refuse it
+-- nothing but a failed allocation can come of the call: it has no effect, and no other cause to refuse it
 -- holds
 pub record IsStuck (n p : ℕ) (s : Node) (call : Call) : Type 0 where
   pub no_effect : (effect : Effect) → ¬ Does n p s call effect

@@ -75,12 +75,12 @@ value_size (Some v) vote = length v
 value_size None (Some vote) = length vote.value
 value_size None None = 0
 
--- the bytes of the value that is told of an instance, if anything is
+-- the bytes of the value that a telling has of an instance, if it has one
 abbrev pub told_size : Node → ℕ → ℕ
 told_size s i = value_size (remembered s i) (last_vote i s.entries)
 
--- how many of k instances from i on have room for their values in so many bytes, before the first that has
--- not
+-- how many of the k instances from i on come before the first whose value does not fit, if `room` bytes are
+-- left
 abbrev pub covered : ℕ → Node → ℕ → ℕ → ℕ
 covered room s zero i = 0
 covered room s (suc k) i =

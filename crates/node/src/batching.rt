@@ -13,8 +13,8 @@ impl<D: Disk> Node<D> {
     ghost use Rattle.node.specs.Standing.{IsNodeOf, IsOnDisk, KeepsOthers, CountsDevice};
 
     /// Opens a batch. Until it is sealed each call is the event that it is, but what it puts on record is in
-    /// memory only. So what it hands out may be given to nobody yet, not even to the node itself. If a batch
-    /// is open already, nothing changes.
+    /// memory only. So nothing that it hands out may be given to anyone yet, not even to the node itself. If
+    /// a batch is open already, nothing changes.
     pub fn begin(&mut self) -> Result<(), NodeFault>
         ensures begun { OnOk result (BeginsAt D.stands_for self.old self.new) }
         ensures same { (s : AbstractNode) → IsNodeOf self.old s → IsNodeOf self.new s }
@@ -33,9 +33,9 @@ impl<D: Disk> Node<D> {
     }
 
     /// Writes all that the calls of the batch put on record to the disk, and closes the batch. After that
-    /// what they handed out may be given away. If the device fails, either all of it is on the disk or none.
-    /// The node is then stopped, its memory is ahead of the disk, and only the next opening shows what is on
-    /// the disk.
+    /// what they handed out may be sent. If the device fails, either all of the batch is on the disk or none
+    /// of it. The node is then stopped, its memory is ahead of the disk, and only the next opening shows what
+    /// is on the disk.
     pub fn seal(&mut self) -> Result<(), NodeFault>
         ensures sealed { OnOk result (SealsAt D.stands_for self.old self.new) }
         ensures same { OnOk result ((s : AbstractNode) → IsNodeOf self.old s → IsNodeOf self.new s) }

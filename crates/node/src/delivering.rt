@@ -1,6 +1,6 @@
 //! A message that is delivered.
 //!
-//! An allocation may always fail for a promise (`TakesRoom`), as only the step shows whether there is a
+//! An allocation may always fail for a promise (`TakesRoom`), since only the step shows whether there is a
 //! majority.
 
 ghost use Rattle.std.specs.Prelude.{◌≡◌, false};

@@ -10,16 +10,16 @@ impl<D: Disk> Node<D> {
     ghost use Rattle.node.specs.Nodes.{Node as AbstractNode};
     ghost use Rattle.node.specs.Standing.{IsNodeOf, KeepsOthers, CountsDevice};
 
-    /// How many bytes of the file its record takes, the gate at the end not counted.
+    /// How many bytes of the file its record takes, not counting the gate at the end.
     pub fn record_bytes(&self) -> u64
         ensures { result ≡ self.now.store.recorded.gate }
     {
         self.store.bytes()
     }
 
-    /// Has the file reach `room` bytes past what it records, and answers whether it does. Want of room is no
-    /// fault, and while a batch is open the file does not grow. If the device fails, the node is stopped, and
-    /// the disk has what it had.
+    /// Makes the file reach `room` bytes past what it records, and returns whether it does. A lack of room is
+    /// no fault, and while a batch is open the file does not grow. If the device fails, the node is stopped,
+    /// and the disk has what it had.
     pub fn grow(&mut self, room: u64) -> Result<bool, NodeFault>
         ensures grown { IfOk result (λ there. GrowsAt D.stands_for self.old self.new room there) }
         ensures same { OnOk result ((s : AbstractNode) → IsNodeOf self.old s → IsNodeOf self.new s) }

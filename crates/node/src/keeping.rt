@@ -15,12 +15,12 @@ impl<D: Disk> Node<D> {
     ghost use Rattle.node.specs.Calls.{keep as keeping, IsUnkept, MayKeep};
     ghost use Rattle.node.specs.Standing.{IsNodeOf, IsEvent, KeepsOthers, CountsDevice, ending_of};
 
-    /// Puts the value known at an instance on record as learned, unless a value is on record there as
-    /// learned. It raises no ballot, and hands out nothing.
+    /// Puts the value known at an instance on record as learned, unless the record has a learned value there.
+    /// It raises no ballot, and hands out nothing.
     ///
-    /// So nodes that restart can report to one another what one of them had learned, and it need not be
-    /// decided again. A vote for the value does not do: votes at an instance may be at different ballots, and
-    /// then no majority of them shows what was decided.
+    /// So after a restart nodes can tell one another what one of them had learned, and it need not be decided
+    /// again. A vote for the value is not enough: votes at an instance may be at different ballots, and then
+    /// no majority of them shows what was decided.
     pub fn keep(&mut self, instance: Instance) -> Result<(), NodeFault>
         ensures event { IsEvent D.stands_for self.old self.new (keeping instance) (ending_of result) [] [] }
         ensures counts { CountsDevice result (D.failed self.old.store.disk) (D.failed self.new.store.disk) }

@@ -8,7 +8,7 @@ use site_disk::Disk;
 use site_ids::{Instance, Value};
 use std::alloc::AllocError;
 
-/// Whether the two are one value.
+/// Whether the two values are the same.
 fn is_same(one: &Value, other: &Value) -> bool
     ensures { IsTrue result ↔ (one.now ≡ other.now) }
 {

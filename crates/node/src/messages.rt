@@ -1,6 +1,6 @@
 //! The messages of a node, and to whom they go.
 //!
-//! That a message is in range is a premise of a handler's clause, not a condition of the call.
+//! A handler's clause has the premise that a message is in range; a call has no such condition.
 
 ghost use Rattle.std.specs.Prelude.{◌≡◌};
 

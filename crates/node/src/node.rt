@@ -66,7 +66,7 @@ impl<D: Disk> Node<D> {
     ghost use Rattle.node.specs.Standing.{IsNodeOf, IsOnDisk, OpensAs};
 
     /// Opens the record of a node of a cluster. Nothing is known, attempted, pending or heard. A refusal
-    /// gives the disk back.
+    /// returns the disk.
     pub fn open(
         alloc: Global,
         cluster: Cluster,
@@ -164,7 +164,7 @@ impl<D: Disk> Node<D> {
         }
     }
 
-    /// Gives the disk back.
+    /// Returns the disk.
     pub fn close(self) -> D
         ensures is { result ≡ self.store.disk }
         ensures keeps { (s : AbstractNode) (d : DiskState) → IsOnDisk D.stands_for self s d

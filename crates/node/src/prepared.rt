@@ -118,7 +118,7 @@ impl<D: Disk> Node<D> {
         Ok(judgement)
     }
 
-    /// Judges one instance more. One that is owed no answer needs no memory.
+    /// Judges one more instance. It allocates only for one that is owed an answer.
     fn judge(
         &self,
         at: Instance,

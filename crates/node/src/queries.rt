@@ -1,6 +1,6 @@
 //! What a node reports of its record and its attempts.
 //!
-//! `next_ballot` gives the next round as a ballot, as promises are compared with ballots.
+//! `next_ballot` returns the next round as a ballot, because promises are compared with ballots.
 
 ghost use Rattle.std.specs.Prelude.{◌≡◌, ◌↔◌, ◌<◌, ℕ, max, List, length, IsSome, IsTrue, MatchOption};
 ghost use Rattle.site_ids.specs.declared.TheConstants.{MAX_ROUND};
@@ -82,7 +82,7 @@ impl<D: Disk> Node<D> {
         self.own_ballot()
     }
 
-    /// The same, said of what the code keeps.
+    /// The same, in terms of what the code keeps.
     pub(crate) fn own_ballot(&self) -> Option<Ballot>
         ensures { MatchOption result (max self.now.store.recorded.round self.now.proposer.heard ≡ MAX_ROUND)
             (λ b. (b ≡ next_of self.now)

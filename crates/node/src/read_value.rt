@@ -61,7 +61,8 @@ impl ReadValue {
         }
     }
 
-    /// So too, but it takes what was read of the value before, if that is there.
+    /// Reads a value that is a command, as `read` does, but takes what was read of it before, if that is
+    /// there.
     pub(crate) fn read_once(
         alloc: Global,
         value: &Value,

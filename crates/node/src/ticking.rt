@@ -1,8 +1,8 @@
 //! A tick: a fresh attempt at the first unknown instance, and the other attempts' messages once more. If the
 //! node is mute there, it asks instead.
 //!
-//! A tick asks for a round that is left, so effect and RoundsUsedUp exclude each other; resent prepares are
-//! of one instance.
+//! A tick needs a round that is left, so its effect and `RoundsUsedUp` exclude each other. Prepares that are
+//! sent again are of one instance.
 
 ghost use Rattle.std.specs.Prelude.{IfOk, IfErr};
 ghost use Rattle.node.specs.Beginning.{IsDue, IsRefusedBy};

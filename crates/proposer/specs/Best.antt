@@ -7,7 +7,7 @@ use Rattle.site_ids.specs.Lists.{In}
 use Rattle.site_ids.specs.declared.value.Vote.{Vote}
 use Rattle.proposer.specs.Attempts.{Answer, ToldNone}
 
--- the vote was reported, and none that was reported is higher; or none was reported
+-- the vote was reported, and no reported vote is higher; or no vote was reported
 abbrev pub IsBest : List Answer → Option Vote → Type 0
 IsBest answers None = ToldNone answers
 IsBest answers (Some best) =

@@ -1,4 +1,4 @@
--- Which attempts a proposer stands for. Of the answers it keeps who sent them, and the best vote reported.
+-- Which attempts a proposer stands for. It keeps who sent answers, and the best vote that they reported.
 use Rattle.std.specs.Prelude.{◌≡◌, ◌⊎◌, ℕ, List, Option, Some, None, Result, Ok, Err, ⊤, IsSome, unwrap_or}
 use Rattle.std.specs.Prelude.{if◌then◌else◌}
 use Rattle.std.specs.BTreeMap.{BTreeMap, get}
@@ -53,8 +53,8 @@ pub record Changes (old new : Proposer) (change : (ℕ → Option Attempt) → �
   pub attempts : (attempts : ℕ → Option Attempt) → Attempting old attempts
       → Attempting new (change attempts)
 
--- what an attempt answers to a promise: nothing if the promise does not count or leaves it waiting, the value
--- that it proposes after it, or that an allocation failed, which changes nothing
+-- what an attempt answers to a promise: nothing if the promise does not count or leaves it waiting; the value
+-- that it proposes after the promise; or that an allocation failed, which changes nothing
 abbrev pub Answered : ℕ → Attempt → ℕ → BallotOf → Option Vote → Result (Option (List ℕ)) AllocError
     → OpenAttempt → Type 0
 Answered n a q b prior (Ok None) kept =

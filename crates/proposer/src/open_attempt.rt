@@ -1,6 +1,6 @@
 //! One attempt, and the promises of its ballot.
 //!
-//! After its proposal an attempt counts no answer. So "it counts" and "it has not proposed" are one
+//! An attempt counts no answer after its proposal. So "it counts" and "it has not proposed" are one
 //! condition.
 
 ghost use Rattle.std.specs.Prelude.{◌≡◌, ◌↔◌, ◌<◌, ◌++◌, [], ◌∷◌, IfOk, IsTrue, None, Some, vec_len};
@@ -14,7 +14,7 @@ ghost use Rattle.proposer.specs.Standing.{StandsFor, Answered};
 use site_ids::{Ballot, Cluster, NodeId, Value, Vote};
 use std::alloc::AllocError;
 
-/// An open attempt. Of the votes reported it keeps the one of the highest ballot.
+/// An open attempt. It keeps the vote of the highest ballot of those reported.
 #[derive(Drop)]
 pub(crate) struct OpenAttempt {
     pub(crate) ballot: Ballot,
@@ -68,8 +68,7 @@ impl OpenAttempt {
         }
     }
 
-    /// The value to propose with this vote in the place of the best one, or with the best one if this is
-    /// `None`.
+    /// The value to propose if this vote takes the place of the best one, or if the best one stays (`None`).
     fn choice(&self, better: &Option<Vote>) -> Result<Value, AllocError>
         ensures { IfOk result (λ v. v ≡ value_by self.now.own (replacing better.now self.now.best)) }
     {

@@ -1,4 +1,4 @@
-//! Making room may fail, and opening an attempt may not. Between the two a node puts its round on record.
+//! Making room may fail, but opening an attempt may not. Between the two a node puts its round on record.
 
 ghost use Rattle.std.specs.Prelude.{◌≡◌, ◌↔◌, ◌+◌, ◌<◌, ℕ, max, None, Some, Option, OnOk, OnErr, IfOk};
 ghost use Rattle.std.specs.Prelude.{IsTrue, MatchResult, length};
@@ -27,7 +27,7 @@ fn is_same(own: &[u8], value: &[u8]) -> bool
     own.get(TICKET_BYTES - 1) == value.get(TICKET_BYTES - 1) && own == value
 }
 
-// Whether an attempt is there that has the value as its own.
+// Whether there is an attempt that has the value as its own.
 fn has_own(attempt: &Option<OpenAttempt>, value: &[u8]) -> bool
     ensures { IsTrue result ↔ ((a : OpenAttempt) × (attempt.now ≡ Some a) × (a.own ≡ value.now)) }
 {
@@ -90,7 +90,7 @@ impl Proposer {
         }
     }
 
-    /// Makes room for an attempt at an instance. The attempts stay as they are.
+    /// Makes room for an attempt at an instance. The attempts do not change.
     pub fn make_room(&mut self, instance: Instance) -> Result<(), AllocError>
         ensures stays { Changes self.old self.new (λ attempts. attempts) }
         ensures room { OnOk result (HasRoom self.new instance) }
@@ -156,8 +156,7 @@ impl Proposer {
         Ok(())
     }
 
-    /// Makes room for an attempt at each of `count` instances, from this one on. The attempts stay as they
-    /// are.
+    /// Makes room for an attempt at each of `count` instances, from this one on. The attempts do not change.
     pub fn make_room_for_span(&mut self, first: Instance, count: u8) -> Result<(), AllocError>
         requires { IsSpan first count }
         ensures stays { Changes self.old self.new (λ attempts. attempts) }

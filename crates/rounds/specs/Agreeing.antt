@@ -1,4 +1,4 @@
--- That rounds are schedules, so what holds of every schedule holds of rounds.
+-- Rounds are schedules, so what holds of every schedule holds of rounds.
 use Rattle.std.specs.Prelude.{◌≡◌, ◌⊎◌, ℕ, Some, List, [], ⊤}
 use Rattle.site_ids.specs.Ids.{IsNode}
 use Rattle.site_ids.specs.Lists.{In}
@@ -15,7 +15,7 @@ use Rattle.world.specs.Worlds.{World, Runs, start}
 use Rattle.rounds.specs.Rounds.{Group, AreRounds}
 use Rattle.rounds.specs.Deciding.{begun_group}
 
--- The nodes of the servers are those of the world. What waits for a server was handed out there
+-- The nodes of the servers are those of the world. What waits for a server is a message that was sent there
 pub record IsGroupOf (n : ℕ) (w : World) (g : Group) : Type 0 where
   pub nodes : (q : ℕ) → IsNode n q → (g q).node ≡ w.node q
   pub sent : (q : ℕ) (bytes : List ℕ) (m : Message) → IsNode n q → In (g q).waits bytes → Spells n bytes m
@@ -49,26 +49,26 @@ abbrev pub RoundsAreRuns : Type 0
 RoundsAreRuns = (n d k : ℕ) (g h : Group) (events : List Event) (w : World) → Runs n start events w
     → IsGroupOf n w g → AreRounds n d k g h → GoesOn n w h
 
--- what a schedule hands out is messages of its nodes, so each is read as it was spelled
+-- what a schedule hands out are messages of its nodes, so each is read as it was spelled
 abbrev pub SchedulesSayMessages : Type 0
 SchedulesSayMessages = (n : ℕ) (events : List Event) (w : World) → Runs n start events w → (m : Message)
     → In w.sent m → IsMessage n m
 
--- A group that a schedule led to takes rounds, and more rounds. Two servers that know an instance know one
--- value there, one of them after the first rounds and the other after the others
+-- A group that a schedule led to takes some rounds, and then more. If two servers know an instance, one after
+-- the first rounds and the other after all, they know one value there
 abbrev pub RoundsKnowSame : Type 0
 RoundsKnowSame = (n d e k j : ℕ) (events : List Event) (f g h : Group) → IsLedTo n events f
     → AreRounds n d k f g → AreRounds n e j g h → (p q i : ℕ) (v x : Value) → IsNode n p → IsNode n q
     → (g p).node.known i ≡ Some v → (h q).node.known i ≡ Some x → v ≡ x
 
--- and if they published a release, they answer each path alike
+-- and if two servers published a release, they answer each path alike
 abbrev pub RoundsAnswerAlike : Type 0
 RoundsAnswerAlike = (n d e k j : ℕ) (events : List Event) (f g h : Group) → IsLedTo n events f
     → AreRounds n d k f g → AreRounds n e j g h → (p q r : ℕ) (xs ys : List Value) → IsNode n p → IsNode n q
     → Publishes (g p).node xs r → Publishes (h q).node ys r → (path : List ℕ) → answer xs r path
     ≡ answer ys r path
 
--- what a server knows after rounds is the no-op, or was submitted before them
+-- a value that a server knows after rounds is the no-op, or was submitted before them
 abbrev pub RoundsKnowSubmitted : Type 0
 RoundsKnowSubmitted = (n d k : ℕ) (events : List Event) (g h : Group) → IsLedTo n events g
     → AreRounds n d k g h

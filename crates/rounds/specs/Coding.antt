@@ -1,4 +1,4 @@
--- That rounds of servers' code decide: what a server's code promises of a step is a step of a round.
+-- Rounds of servers' code decide: what a server's code promises of a step is a step of a round.
 use Rattle.std.specs.Prelude.{◌≡◌, ℕ, zero, suc, ◌+◌, ◌*◌, ◌<◌, ◌≤◌, Some, List, ◌∷◌, length}
 use Rattle.site_ids.specs.Ids.{IsNode}
 use Rattle.site_ids.specs.Lists.{In}
@@ -22,7 +22,7 @@ server_of s pace waits now = record { node = s; pace = pace; waits = waits; now 
 
 -- `Server::step` has these two clauses, of its batch and of its pace. From each node that the code's node
 -- stood for before, a step of a round leads to one that it stands for after the batch. This holds whatever
--- waits then, and however many steps the pace counts in which nothing came
+-- waits after it, and however many empty steps the pace counts
 abbrev pub StepsAreSteps : {D : Type 0} → (D → DiskState → Type 0) → Type 0
 StepsAreSteps stands_for = (old new : Running _) (before after : Mail) (pace paced : Pace) (last : LastCall)
     (malformed earlier now : ℕ)
@@ -42,7 +42,7 @@ pub record CodeServer (D : Type 0) : Type 0 where
   pub pace : Pace
   pub now : ℕ
 
--- the group that it stands for, with these nodes
+-- the group that the code stands for, with these nodes
 abbrev pub group_of : {D : Type 0} → (ℕ → CodeServer D) → (ℕ → Node) → Group
 group_of g nodes q = server_of (nodes q) (g q).pace (waiting_of (g q).mail) (g q).now
 

@@ -1,4 +1,4 @@
--- That a proposal which nobody overbids decides in two rounds.
+-- A proposal that nobody overbids decides in two rounds.
 use Rattle.std.specs.Prelude.{◌≡◌, ℕ, Some, None, List}
 use Rattle.site_ids.specs.Ids.{BallotOf, IsInstance, IsNode, NotAbove}
 use Rattle.site_ids.specs.Lists.{In}
@@ -15,7 +15,7 @@ use Rattle.world.specs.declared.event.Event.{Event}
 use Rattle.rounds.specs.Rounds.{Group, IsRound, AreRounds}
 use Rattle.rounds.specs.Agreeing.{IsLedTo}
 
--- the message asks for a promise or a vote of this ballot at the instance
+-- the message asks for a promise or a vote at this ballot and instance
 abbrev pub Requests : Message → ℕ → BallotOf → Type 0
 Requests (Prepare q j c k) i b = IsInSpan j k i × (c ≡ b)
 Requests (Promise q j c prior) i b = ⊥
@@ -30,12 +30,13 @@ abbrev pub NobodyPromisedAbove : ℕ → ℕ → BallotOf → Group → Type 0
 NobodyPromisedAbove n i b g = (q : ℕ) → IsNode n q → (e : Entry) (c : BallotOf) → In (g q).node.entries e
     → Raises e i c → NotAbove c b
 
--- and what waits for them asks for none
+-- what waits for the servers asks for no ballot above this one at the instance
 abbrev pub NobodyOverbids : ℕ → ℕ → BallotOf → Group → Type 0
 NobodyOverbids n i b g = (q : ℕ) → IsNode n q → (bytes : List ℕ) (m : Message) (c : BallotOf)
     → In (g q).waits bytes → Spells n bytes m → Requests m i c → NotAbove c b
 
--- a proposal waits for every server, none of which is mute at its instance or promised a higher ballot there
+-- a proposal waits for every server, and none of them is mute at its instance or promised a higher ballot
+-- there
 pub record IsProposed (n i : ℕ) (b : BallotOf) (v : Value) (g : Group) : Type 0 where
   pub from : ℕ
   pub waits : (q : ℕ) → IsNode n q → (bytes : List ℕ) × In (g q).waits bytes
@@ -44,7 +45,7 @@ pub record IsProposed (n i : ℕ) (b : BallotOf) (v : Value) (g : Group) : Type 
   pub promised : NobodyPromisedAbove n i b g
 
 -- If a schedule led to this, and nobody overbids the proposal, every server knows the value after two rounds,
--- whoever ticks in them
+-- whichever servers tick in them
 abbrev pub ProposalDecides : Type 0
 ProposalDecides = (n d i : ℕ) (b : BallotOf) (v : Value) (events : List Event) (g h : Group)
     → IsLedTo n events g → IsProposed n i b v g → NobodyOverbids n i b g → AreRounds n d 2 g h
@@ -52,9 +53,9 @@ ProposalDecides = (n d i : ℕ) (b : BallotOf) (v : Value) (events : List Event)
 
 -- ---- an attempt
 
--- The node of ballot b has an attempt at the instance, which proposed nothing yet. Its prepare is of some
--- instances in a row, this one among them, and waits for every server. None of them is mute at the first, or
--- promised a higher ballot at this one
+-- The node of ballot b has an attempt at the instance, which proposed nothing yet. Its prepare is about some
+-- instances in a row, this one included, and waits for every server. No server is mute at the first of them,
+-- or promised a higher ballot at this one
 pub record IsAttempted (n i : ℕ) (b : BallotOf) (g : Group) : Type 0 where
   pub owner : IsNode n b.node
   pub attempt : Attempt
@@ -69,8 +70,8 @@ pub record IsAttempted (n i : ℕ) (b : BallotOf) (g : Group) : Type 0 where
   pub not_mute : (q : ℕ) → IsNode n q → ¬ IsMute (g q).node first
   pub promised : NobodyPromisedAbove n i b g
 
--- If a schedule led to this, and nobody overbids it in the first two rounds, its node knows the instance
--- after four, whoever ticks in the others
+-- If a schedule led to this, and nobody overbids the attempt in the first two rounds, its node knows the
+-- instance after four, whichever servers tick in the others
 abbrev pub AttemptDecides : Type 0
 AttemptDecides = (n d i : ℕ) (b : BallotOf) (events : List Event) (e f g h : Group) → IsLedTo n events e
     → IsAttempted n i b e → IsRound n d e f → IsRound n d f g → AreRounds n d 2 g h
@@ -94,9 +95,9 @@ abbrev pub NobodyIsMute : ℕ → Group → Type 0
 NobodyIsMute n g = (q r j : ℕ) → IsNode n q → IsNode n r → IsInstance j → (g r).node.known j ≡ None
     → ¬ IsMute (g q).node j
 
--- A schedule led to a group, and it takes a round. A ballot is asked for then that no record exceeds at the
--- instance, and nobody overbids it, nor in the two rounds after. Then its node knows the instance four rounds
--- later
+-- A schedule led to a group, which takes a round. After it some server is asked for a ballot that no record
+-- exceeds at the instance. Nobody overbids that ballot then or in the two rounds after. Then its node knows
+-- the instance four rounds later
 abbrev pub HighestDecides : Type 0
 HighestDecides = (n d i : ℕ) (b : BallotOf) (events : List Event) (x e f g h : Group) → IsLedTo n events x
     → NobodyIsMute n x → IsRound n d x e → IsAskedFor n i b e → NobodyPromisedAbove n i b e
@@ -104,8 +105,8 @@ HighestDecides = (n d i : ℕ) (b : BallotOf) (events : List Event) (x e f g h :
     → NobodyOverbids n i b e → NobodyOverbids n i b f → NobodyOverbids n i b g
     → (v : Value) × ((h b.node).node.known i ≡ Some v)
 
--- What is asked of a server that is not mute at the first instance of the request is on its record after the
--- round, or a higher ballot is
+-- If a server is asked for a ballot, and is not mute at the first instance of the request, that ballot or a
+-- higher one is on its record after the round
 abbrev pub RequestsAreHeeded : Type 0
 RequestsAreHeeded = (n d i : ℕ) (b : BallotOf) (g h : Group) → IsRound n d g h → (q : ℕ) → IsNode n q
     → (bytes : List ℕ) (m : Message) → In (g q).waits bytes → Spells n bytes m → Requests m i b

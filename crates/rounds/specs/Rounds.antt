@@ -1,4 +1,4 @@
--- Servers in rounds: in each of them every server takes one step, and what those hand out waits before the
+-- Servers in rounds. In each round every server takes one step, and what the steps hand out waits before the
 -- next ones.
 use Rattle.std.specs.Prelude.{◌≡◌, ℕ, zero, suc, ◌+◌, ◌≤◌, Bool, List}
 use Rattle.site_ids.specs.Ids.{IsNode}
@@ -15,8 +15,8 @@ use Rattle.server_pace.specs.declared.pace.Pace.{Pace}
 use Rattle.server_pace.specs.Pacing.{CallsDue, HearsBatch}
 use Rattle.server.specs.Mailing.{own_of}
 
--- a server: its node, when it tries, asks and tells, what waits for it, and the moment of its last step, in
--- milliseconds since it began
+-- a server: its node, its pace, what waits for it, and the moment of its last step, in milliseconds since it
+-- began
 pub record Server : Type 0 where
   pub node : Node
   pub pace : Pace
@@ -28,7 +28,7 @@ abbrev pub Group : Type 0
 Group = ℕ → Server
 
 -- A step of server p of n. It makes the call that its pace says is due, after it took all that waited. The
--- pace hears what that was; how many steps went by in which nothing came is left open. No client submits a
+-- pace hears what that was, and may count any number of steps in which nothing came. No client submits a
 -- value
 pub record Steps (n p : ℕ) (x y : Server) (letters : List (To × List ℕ)) : Type 0 where
   pub drained : Bool
@@ -46,8 +46,8 @@ pub record Steps (n p : ℕ) (x y : Server) (letters : List (To × List ℕ)) : 
   pub rests : y.pace ≡ record heard { empty = y.pace.empty }
   pub letters_are : letters ≡ spelled_of out
 
--- Every server takes a step, its clock 1 to d milliseconds on. Before the next one there waits for it what
--- each has for it, in any order and any number of times, and nothing else
+-- Every server takes a step, and its clock goes on by 1 to d milliseconds. Before the next step all letters
+-- for a server, from every server, wait for it, in any order and any number of times, and nothing else does
 pub record IsRound (n d : ℕ) (g h : Group) : Type 0 where
   pub letters : ℕ → List (To × List ℕ)
   pub steps : (p : ℕ) → IsNode n p → Steps n p (g p) (h p) (letters p)
@@ -57,7 +57,7 @@ pub record IsRound (n d : ℕ) (g h : Group) : Type 0 where
   pub alone : (p : ℕ) (bytes : List ℕ) → IsNode n p → In (h p).waits bytes
       → (q : ℕ) × IsNode n q × In (own_of p (letters q)) bytes
 
--- so many rounds, one after another
+-- k rounds, one after another
 abbrev pub AreRounds : ℕ → ℕ → ℕ → Group → Group → Type 0
 AreRounds n d zero g h = h ≡ g
 AreRounds n d (suc k) g h = (mid : Group) × IsRound n d g mid × AreRounds n d k mid h

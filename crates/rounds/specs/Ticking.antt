@@ -13,12 +13,12 @@ use Rattle.rounds.specs.Rounds.{Server, Group, Steps, IsRound, AreRounds}
 use Rattle.rounds.specs.Agreeing.{IsLedTo}
 use Rattle.rounds.specs.Proposing.{IsAskedFor, NobodyIsMute}
 
--- the server ticks as its patience has passed, and not for a fresh value
+-- the server ticks because its patience has passed, and not for a fresh value
 abbrev pub ticks_as_due : LastCall → Due → Bool
 ticks_as_due TickOrAsk due = due.tick && not due.fresh
 ticks_as_due last due = false
 
--- how often server q does so in these rounds
+-- how many such ticks server q makes in these rounds
 abbrev pub due_ticks : (n d k : ℕ) (g h : Group) → AreRounds n d k g h → (q : ℕ) → IsNode n q → ℕ
 due_ticks n d zero g h rounds q here = 0
 due_ticks n d (suc k) g h rounds q here =
@@ -26,7 +26,7 @@ due_ticks n d (suc k) g h rounds q here =
     then suc (due_ticks n d k rounds.0 h rounds.2 q here)
     else due_ticks n d k rounds.0 h rounds.2 q here
 
--- Such ticks of a server are a patience apart: so many rounds have no more of them
+-- Such ticks of a server are a patience apart, which bounds their number in k rounds
 abbrev pub TicksAreApart : Type 0
 TicksAreApart = (n d k : ℕ) (g h : Group) (rounds : AreRounds n d k g h) (q : ℕ) (here : IsNode n q)
     → due_ticks n d k g h rounds q here * (g q).pace.patience ≤ (g q).pace.patience + k * d
@@ -41,8 +41,8 @@ abbrev pub Begins : (n p i : ℕ) (x y : Server) (letters : List (To × List ℕ
 Begins n p i x y letters step = (step.last ≡ TickOrAsk)
     ⊎ ((step.last ≡ Widen) × (step.batch.works.mid.attempts i ≡ None))
 
--- A schedule led to a group, and it takes a round. If a ballot is asked for then that nobody promised before,
--- its server began an attempt in the round, or sent an old one's prepare again
+-- A schedule led to a group, which takes a round. If a ballot is asked for after it that nobody promised
+-- before, its server began an attempt in the round, or sent the prepare of an old one again
 abbrev pub NewIsBegun : Type 0
 NewIsBegun = (n d i : ℕ) (b : BallotOf) (events : List Event) (x e : Group) → IsLedTo n events x
     → NobodyIsMute n x → (round : IsRound n d x e) → NobodyPromisedIt n i b x → IsAskedFor n i b e

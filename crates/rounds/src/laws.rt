@@ -1,4 +1,4 @@
-//! That rounds decide.
+//! Rounds decide.
 ghost use Rattle.rounds.specs.Agreeing.{RoundsAnswerAlike, RoundsAreRuns, RoundsKnowSame};
 ghost use Rattle.rounds.specs.Agreeing.{RoundsKnowSubmitted, SchedulesSayMessages, StartIsLedTo};
 ghost use Rattle.rounds.specs.Coding.{CodeRoundsDecide, StepsAreSteps};
@@ -20,15 +20,15 @@ pub fn calm_rounds_decide()
 {}
 
 /// What `Server::step` promises of its batch and of its pace is a step of a round. So the rounds say nothing
-/// of a server that its code does not promise, and five rounds of the code of a calm group decide. In these
-/// rounds no client submits a value.
+/// about a server that its code does not promise, and five rounds of the code of a calm group decide. In
+/// these rounds no client submits a value.
 pub fn rounds_of_code_decide<D: Disk>()
     ensures step { StepsAreSteps D.stands_for }
     ensures decides { CodeRoundsDecide D.stands_for }
 {}
 
-/// Rounds are events of a world. So rounds of a group that a schedule led to go on with that schedule, and
-/// what holds of every schedule holds of them: two servers know the same, which was submitted, and answer
+/// Rounds are events of a world. So rounds of a group that a schedule led to continue that schedule, and what
+/// holds of every schedule holds of them. Two servers know the same values, which were submitted, and answer
 /// alike.
 pub fn rounds_agree()
     ensures runs { RoundsAreRuns }
@@ -41,11 +41,11 @@ pub fn rounds_agree()
     batches_are_runs::<MemDisk>();
 }
 
-/// The highest ballot that is asked for, and that no record exceeds, decides in four rounds, if nobody
-/// overbids it in the first two, whatever else the servers do. So does an attempt. A proposal that waits for
-/// all servers decides in two. A request is heeded, or a higher ballot was. A ballot above all that are on
-/// record comes of a tick, or of widenings of a server that had no attempt. Ticks that are due are a patience
-/// apart, so there are few.
+/// The highest ballot that is asked for, and that no record exceeds, decides in four rounds if nobody
+/// overbids it in the first two. What else the servers do does not matter. An attempt decides in four rounds,
+/// too. A proposal that waits for all servers decides in two. After a request its ballot or a higher one is
+/// on record. A ballot above all that are on record comes from a tick, or from widenings of a server that had
+/// no attempt. Ticks that are due are a patience apart, so there are few.
 pub fn attempts_decide()
     ensures highest { HighestDecides }
     ensures attempt { AttemptDecides }

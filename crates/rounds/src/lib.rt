@@ -1,4 +1,4 @@
-//! Servers in rounds: in each round every server takes one step, and what those hand out waits before the
+//! Servers in rounds. In each round every server takes one step, and what the steps hand out waits before the
 //! next ones. A calm group decides in five rounds, and steps of a server's code are such steps.
 #![tactic(auto)]
 

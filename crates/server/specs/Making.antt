@@ -12,7 +12,7 @@ use Rattle.server_faults.specs.declared.serve_options.ServeOptions.{ServeOptions
 use Rattle.server.specs.declared.making.Making.{Making}
 use Rattle.server.specs.declared.making.Making.TheVariants.{Nothing, Empty, Above}
 
--- what the options say of the reaches of others
+-- what the options say about the reaches of others
 abbrev pub told_by : ServeOptions → List (List ℕ)
 told_by o = map (λ text. text.now) o.above.items
 

@@ -6,7 +6,7 @@ use Rattle.server_notes.specs.Lines.{line_of_note}
 use Rattle.server_notes.specs.declared.note.Note.{Note}
 
 -- some lines were given one after another. Each is that of a note, whole, or a beginning of it if the writer
--- failed. If there is none, all is as it was
+-- failed. If there is no line, all is as it was
 abbrev pub GivesNotes : ℕ → End → Type 0
 GivesNotes zero e = GivesNone e
 GivesNotes (suc k) e = (held : Option (List ℕ)) × (failures : ℕ) × (note : Note)

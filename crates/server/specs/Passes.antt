@@ -126,8 +126,8 @@ BreaksWork n p count why through s next =
 abbrev pub IsOneOf : ℕ → ℕ → List Node → List ℕ → Type 0
 IsOneOf p n nodes file = (x : Node) × In nodes x × IsFound p n x.entries x.in_flight file
 
--- what the disk keeps of the first node it keeps of the last one. A crash at any moment leaves what one of
--- them, or one of those between, has on record
+-- if the disk keeps the first node, it keeps the last one. A crash at any moment leaves what one of them, or
+-- one of those between, has on record
 abbrev pub StaysAlong : {D : Type 0} → (D → DiskState → Type 0) → Running D → Running D → Node → List Node
     → Node → Type 0
 StaysAlong stands_for old new s through next = (d : DiskState) → IsOnDisk stands_for old s d
@@ -162,7 +162,7 @@ abbrev pub AreSenders : ℕ → List (List ℕ) → List Bool → Type 0
 AreSenders n came heard =
     (delivered : Delivered) × AreNoted n came none_noted delivered × (heard ≡ delivered.heard)
 
--- The pace of a step: it called what was due. If the mail had room, all that had come was taken in. Then it
+-- The pace of a step: it called what was due. All that had come was taken in if the mail had room. Then it
 -- heard what the batch delivered
 pub record Paces {D : Type 0} (node : Running D) (mail : Mail) (now : ℕ) (last : LastCall)
     (old new : Pace) : Type 0 where
@@ -174,8 +174,8 @@ pub record Paces {D : Type 0} (node : Running D) (mail : Mail) (now : ℕ) (last
   pub noted : AreNoted node.cluster (waiting_of mail) none_noted delivered
   pub hears : HearsBatch mid delivered new
 
--- What may be sent though a step ended its server like this: nothing; or, if an allocation failed, the first
--- letters of its batch, which is sealed
+-- What may be sent though a step ended its server with this fault: nothing; or, if an allocation failed, the
+-- first letters of its batch, which is sealed
 abbrev pub MaySend : {D : Type 0} → (D → DiskState → Type 0) → List (List ℕ) → List (To × List ℕ)
     → ServerFault → Running D → Type 0
 MaySend {D} stands_for came letters why old = (letters ≡ [])

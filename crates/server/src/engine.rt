@@ -33,7 +33,7 @@ use std::rt::{Clock, Files};
 
 type FileServer = Server<FileDisk, TcpStream>;
 
-/// Whoever owns a server is proved to drop it, and a box is dropped in one step.
+/// The server in a box. Whoever owns a server is proved to drop it, and a box is dropped in one step.
 fn boxed(alloc: Global, server: FileServer) -> Result<Box<FileServer>, ServerFault>
     ensures kept { IfOk result (λ boxed. boxed.value ≡ server) }
     ensures fault { IfErr result EndsOpening }
@@ -48,8 +48,8 @@ fn boxed(alloc: Global, server: FileServer) -> Result<Box<FileServer>, ServerFau
 }
 
 /// How many bytes the file of a running server's record is longer than what it records, so that few syncs
-/// write the file system's journal too: at the most commits a second that were measured it grows ten times a
-/// second.
+/// write the file system's journal too. At the most commits a second that were measured the file grows ten
+/// times a second.
 const ROOM: u64 = 262_144;
 
 /// A server of the node over the record, and at how many instances the record has a vote.
@@ -106,7 +106,7 @@ fn open<R: Net<Listener = TcpListener, Stream = TcpStream> + Files<File = File> 
     Ok((server, shell))
 }
 
-/// How many passes this many laps of a node are.
+/// How many passes these laps of a node are.
 fn count_passes(node: u8, rounds: u32) -> u64
     ensures { result ≡ passes_of node rounds }
 {

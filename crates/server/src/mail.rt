@@ -25,9 +25,9 @@ const BYTES: usize = 1_000_000;
 
 /// Datagrams that came and wait for the next step, and letters that the last one handed out.
 ///
-/// Who carries them has it take in what came, and sends each letter to whom it is for, one for all to each
-/// other node (`pack`). What is for this node itself never leaves it: it waits for the next step, before all
-/// that comes until then.
+/// The carrier takes in what came, and sends each letter to the node that it is for, or to each other node if
+/// it is for all (`pack`). What is for this node itself never leaves it: it waits for the next step, before
+/// all that comes until then.
 #[derive(Drop)]
 pub struct Mail {
     alloc: Global,
@@ -50,7 +50,7 @@ pub(crate) fn reaches(to: To, node: NodeId) -> bool
     }
 }
 
-/// If a letter is for that node, it is one more datagram.
+/// If a letter is for that node, it waits as one more datagram.
 fn put_own(
     alloc: Global,
     letter: &Letter,
@@ -66,7 +66,7 @@ fn put_own(
     Ok(())
 }
 
-/// The same for each of these letters.
+/// Puts each of these letters that is for that node.
 fn put_each(
     alloc: Global,
     letters: &[Letter],
@@ -189,7 +189,7 @@ impl Mail {
         self.letters.as_slice()
     }
 
-    /// What waited was taken. What waits now is what these letters have for this node.
+    /// What waited was taken. Now the letters for this node wait.
     pub(crate) fn keep_own(&mut self, me: NodeId) -> Result<(), AllocError>
         ensures own { OnOk result (waiting_of self.new ≡ own_of me (posted_of self.old)) }
         ensures room { self.new.bytes ≡ 0 }

@@ -84,7 +84,7 @@ fn sync_folder<R: Files<File = File>>(
 }
 
 /// Makes an empty file the record that is asked for, and returns whether it did. A file that is not empty
-/// stays as it is: it may be an empty record's place no more, and never that of one with a floor.
+/// stays as it is: no record is made in its place. If a record with a floor is asked for, that is a fault.
 fn make<D: Disk>(
     cluster: Cluster,
     me: NodeId,

@@ -22,7 +22,7 @@ fn may_join(packet: &Packet, len: usize, alone: bool) -> bool
 
 /// Packs what the first of these letters have for a node, in the place of what was packed. It packs as many
 /// as go into one packet, and at least one, however long that is; or only one, for a node that reads no
-/// packets (`Peers`). It returns how many letters these are, those for other nodes among them.
+/// packets (`Peers`). Returns how many of the letters these are, including those for other nodes.
 pub fn pack(
     letters: &[Letter],
     to: NodeId,

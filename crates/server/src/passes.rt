@@ -1,7 +1,7 @@
 //! The passes of a server's laps: what has come is taken in one step, and what goes out is sent.
 //!
-//! Laps count no failure of the device unless they end as stopped, as a node that was stopped before ends by
-//! the same word.
+//! Laps count no failure of the device unless they end as stopped, since a node that was stopped before ends
+//! with the same fault.
 
 ghost use Rattle.std.specs.Prelude.{◌≡◌, ◌⊎◌, IfErr, OnOk};
 ghost use Rattle.http_read.specs.Bytes.{end_of};

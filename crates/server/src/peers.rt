@@ -11,8 +11,8 @@ ghost use Rattle.server_times.specs.Timing.{passed};
 use server_times::{Times, has_passed};
 use site_ids::NodeId;
 
-/// When packets came from other nodes and went to them, in milliseconds since this server began. Node p has
-/// the place p - 1.
+/// When packets came from other nodes and went to them, in milliseconds since this server began: node p at
+/// index p - 1.
 #[derive(Clone, Copy, Drop)]
 pub struct Peers {
     times: Times,

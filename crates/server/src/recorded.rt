@@ -22,14 +22,14 @@ pub struct Recorded {
     pub furthest: u32,
 }
 
-/// One more, if that holds.
+/// `count`, and one more if `is` holds.
 fn count_on(count: u32, is: bool) -> u32
     ensures { result ≡ (if is then min (count + 1) (2 ^ 32 - 1) else count) }
 {
     if is { count.saturating_add(1) } else { count }
 }
 
-/// This instance, if that holds at it, or else the one found so far.
+/// This instance, if `is` holds at it, or else the one found so far.
 fn further(found: u32, instance: u32, is: bool) -> u32
     ensures { result ≡ (if is then instance else found) }
 {
@@ -37,7 +37,7 @@ fn further(found: u32, instance: u32, is: bool) -> u32
 }
 
 impl Recorded {
-    /// With what the record has at an instance after those that were looked at.
+    /// The same with what the record has at one more instance.
     fn look_at<D: Disk>(self, node: &Node<D>, instance: Instance) -> Recorded
         ensures { (s : AbstractNode) → IsNodeOf node.now s → result ≡ recorded_at s instance self }
     {

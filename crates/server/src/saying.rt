@@ -24,7 +24,7 @@ fn note_line(alloc: Global, note: &Note) -> Result<String, AllocError>
     format!(in alloc; "{note}\n")
 }
 
-/// Writes the line of a note. If that or an allocation fails, it is ignored.
+/// Writes the line of a note. A failure of that, or of an allocation, is ignored.
 fn tell_note<E: Write>(alloc: Global, err: &mut Counted<E>, note: &Note)
     ensures { HasNoted true (end_of E.contents err.old err.new) }
 {

@@ -1,11 +1,11 @@
-//! What carries a server's bytes: its sockets and its clock. It is read: nothing is proved of it except that
-//! it is safe and returns.
+//! What carries a server's bytes: its sockets and its clock. Nothing is proved of it except that it is safe
+//! and returns.
 //!
 //! What it sends a node in a pass goes as packets (`server_packets`), if that node reads them (`Peers`): each
 //! call that sends costs some microseconds, as much as a message.
 //!
-//! A rest of 10 ms or more waits for a datagram and ends with it; a shorter one sleeps, as the system counts
-//! such waits in steps of some milliseconds.
+//! A rest of 10 ms or more waits for a datagram and ends with it. A shorter rest sleeps, since the system
+//! counts such waits in steps of some milliseconds.
 
 use crate::addresses::Addresses;
 use crate::mail::Mail;
@@ -35,8 +35,8 @@ const ACCEPTED: u32 = 64;
 /// wait in milliseconds, so a shorter rest sleeps.
 const LONG: u64 = 10_000;
 
-/// How many reads of what a script's client still sends are made before its connection is closed, each of at
-/// most 4,096 bytes.
+/// How many times the rest of what a script's client sent is read before its connection is closed, each time
+/// at most 4,096 bytes.
 const LINGER: u32 = 16;
 
 /// The sockets, none of which waits, and the time.
@@ -137,7 +137,7 @@ fn send_to(
 }
 
 impl Shell {
-    /// Both sockets are there, and do not wait.
+    /// Both sockets are open, and do not wait.
     pub(crate) fn new<C: Clock>(
         clock: &C,
         alloc: Global,
@@ -280,8 +280,8 @@ impl Shell {
         }
     }
 
-    /// Parts with the clients that leave: whether anything came of one that left. None leaves while their
-    /// requests are left, as they wait longer then than a request may.
+    /// Parts with the clients that leave, and returns whether anything came from one that left. No client
+    /// leaves while their requests are left unanswered, since they wait longer then than a request may.
     pub(crate) fn part(&mut self, seats: &mut Seats<TcpStream>, now: u64, left: bool) -> bool {
         if !left {
             self.part_each(seats, now);
@@ -289,7 +289,7 @@ impl Shell {
         self.partings.read_each(now)
     }
 
-    /// Parts with the clients that leave, with a limited number at most.
+    /// Parts with the clients that leave, up to a limit.
     fn part_each(&mut self, seats: &mut Seats<TcpStream>, now: u64) {
         for _ in 0..ACCEPTED {
             match seats.leave(now) {

@@ -1,12 +1,12 @@
 //! What a pass saw, for the lines that a server says of itself.
 //!
-//! A message counts for the node that it names as its sender, as it does for the server's node. By addresses
-//! no node would be heard if they are translated.
+//! A message counts for the node that it names as its sender, as it does for the server's node. If addresses
+//! are translated, no node would be recognized by its address.
 
 use crate::server::Stepped;
 use server_notes::{Figures, Note, Notes};
 
-/// What became of clients in a pass, and the notes of all passes before it.
+/// What happened to clients in a pass, and the notes of all passes before it.
 #[derive(Drop)]
 pub(crate) struct Watch {
     notes: Notes,

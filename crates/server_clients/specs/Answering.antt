@@ -44,7 +44,7 @@ IsAtEnd service times time now old new =
     ⊎ ((¬ (IsLeft service times time now old)) × NoneAnswered old.connection new.connection
     × (new ≡ record old { connection = new.connection }))
 
--- one request more is answered, or no further one
+-- one more request is answered, or no further one is
 abbrev pub MayBeOneMore : {S T : Type 0} → Offered S → Times → ℕ → Bool → S → S → Seat T → Seat T → Type 0
 MayBeOneMore service times time true now after old new = IsOneMore service times time now after old new
 MayBeOneMore service times time false now after old new =
@@ -70,7 +70,7 @@ pub record AreAnswered {S T : Type 0} (service : Offered S) (times : Times) (tim
   pub as_many : length new ≡ length old
   pub turns : AreTurns service times time (length old) now after old new
 
--- the client has more responses, or as many as before
+-- the client has more responses than before, or as many
 abbrev pub CountsAnswered : {T : Type 0} → Bool → Seat T → Seat T → Type 0
 CountsAnswered true old new = old.connection.answered < new.connection.answered
 CountsAnswered false old new = new.connection.answered ≡ old.connection.answered

@@ -61,7 +61,8 @@ AreDropped {T} remaining (suc k) old new =
     ((mid : Parting T) × Drops remaining Came old mid × AreDropped remaining k mid new)
     ⊎ ((outcome : ReadOutcome) × (outcome ≢ Came) × Drops remaining outcome old new)
 
--- Its own stream is read, until nothing more is there or as often as a step may. Whether bytes came is said
+-- Its own stream is read, until nothing more is there or as often as a step may. `came` says whether bytes
+-- came
 abbrev pub IsDropped : {T : Type 0} → (T → Option (List ℕ)) → Bool → Parting T → Parting T → Type 0
 IsDropped remaining came old new =
     AreDropped remaining READS old new × (came ≡ nat_lt old.dropped new.dropped)

@@ -34,7 +34,7 @@ TimesRead read_outcome.Came now old new =
     (new.moved ≡ now) × (new.came ≡ now) × (new.begun ≡ Some (unwrap_or old.begun now))
 TimesRead _ now old new = SameTimes old new
 
--- Its own stream is read once into its own connection, if it may be read. Whether anything came is said
+-- Its own stream is read once into its own connection, if it may be read. `came` says whether anything came
 abbrev pub IsReadOnce : {T : Type 0} → (T → Option (List ℕ)) → ℕ → Bool → Seat T → Seat T → Type 0
 IsReadOnce remaining now came old new =
     (¬ (MayBeRead old) × (came ≡ false) × (new ≡ old))
@@ -63,7 +63,7 @@ pub record IsHeld {T : Type 0} (times : Times) (now : ℕ) (seat : Seat T) : Typ
   pub soon : now - seat.came < times.holds
 
 -- What its own connection owes is written to its own stream once, if it owes anything and that is not held
--- back. Whether anything went is said
+-- back. `went` says whether anything went
 abbrev pub IsWrittenOnce : {T : Type 0} → (T → Option (List ℕ)) → Times → ℕ → Bool → Seat T → Seat T → Type 0
 IsWrittenOnce contents times now went old new =
     (((length (owed old.connection) ≡ 0) ⊎ IsHeld times now old) × (went ≡ false) × (new ≡ old))

@@ -38,8 +38,8 @@ IsSlow times now seat = (begun : ℕ) × (seat.begun ≡ Some begun) × (times.k
 abbrev pub MayGo : {T : Type 0} → Times → ℕ → Seat T → Type 0
 MayGo times now seat = (length (owed seat.connection) ≡ 0) ⊎ IsSlow times now seat
 
--- of the seat found so far, with the moment since when it was silent, and the next one: whichever was silent
--- longer, or the one found if both were silent equally long
+-- the seat that was silent longer: the one found so far, with the moment since when it was silent, or the
+-- next one; the one found if both were silent equally long
 abbrev pub earlier : Option (ℕ × ℕ) → ℕ → Option ℕ → Option (ℕ × ℕ)
 earlier found i None = found
 earlier None i (Some since) = Some (i, since)
@@ -60,20 +60,20 @@ abbrev pub NoneGoes : {T : Type 0} → Times → ℕ → List (Seat T) → Type 
 NoneGoes {T} times now seats = (i : ℕ) → i < length seats → (none : Seat T)
     → ¬ (MayGo times now (get_or seats i none))
 
--- seat i is given up, and its stream is handed out. The last seat comes into its place
+-- seat i is given up, and its stream is handed out. The last seat takes its place
 pub record HandsOut {T : Type 0} (old new : List (Seat T)) (i : ℕ) (stream : T) : Type 0 where
   pub seat : Seat T
   pub is : seat ≡ get_or old i seat
   pub stream_is : stream ≡ inside seat.stream
   pub left : new ≡ swap_remove old i seat
 
--- A client gets a seat if one is free: the last one. Otherwise its stream is given back
+-- A client gets a seat if one is free: the last one. Otherwise its stream is returned
 abbrev pub IsAdmitted : {T : Type 0} → T → ℕ → List (Seat T) → List (Seat T) → Option T → Type 0
 IsAdmitted {T} stream now old new None =
     (length old < 64) × (seat : Seat T) × IsFresh stream now seat × (new ≡ old ++ seat ∷ [])
 IsAdmitted stream now old new (Some back) = (64 ≤ length old) × (back ≡ stream) × (new ≡ old)
 
--- If all seats are taken, the one that goes first is given up. None is given up if a seat is free, or if none
+-- If all seats are taken, the one that goes first is given up. No seat is given up if one is free, or if none
 -- may go
 abbrev pub MakesRoom : {T : Type 0} → Times → ℕ → List (Seat T) → List (Seat T) → Option T → Type 0
 MakesRoom times now old new (Some stream) =
@@ -85,7 +85,7 @@ abbrev pub StayBefore : {T : Type 0} → ℕ → Times → ℕ → List (Seat T)
 StayBefore {T} k times now seats =
     (j : ℕ) → j < k → (none : Seat T) → ¬ (IsLeaving times now (get_or seats j none))
 
--- The first seat that is to be closed is given up. None is given up if none is to be closed
+-- The first seat that is to be closed is given up, if there is one
 abbrev pub Leaves : {T : Type 0} → Times → ℕ → List (Seat T) → List (Seat T) → Option T → Type 0
 Leaves {T} times now old new (Some stream) =
     (i : ℕ) × (i < length old) × ((none : Seat T) → IsLeaving times now (get_or old i none))

@@ -30,7 +30,7 @@ ComesTo n p s v (Err Stopped) next = Ends n p s (submit v) (Refused fault.Stoppe
 ComesTo n p s v (Err OutOfMemory) next = next ≡ s
 
 -- From each node that the service stands for, the submission of that ticket and text leads to one that it
--- stands for afterwards. It stays the same node, and what it has published and what is on record stay
+-- stands for afterwards. The node stays the same, and so does what it has published and has on record
 pub record Takes {D : Type 0} (old : Served D) (ticket : Ticket) (text : List ℕ) (done : Outcome)
     (new : Served D) : Type 0 where
   pub leads : (s : Node) → IsNodeOf old.node s → (next : Node)
@@ -38,7 +38,7 @@ pub record Takes {D : Type 0} (old : Served D) (ticket : Ticket) (text : List �
   pub others : KeepsOthers old.node new.node
   pub record_is : new.node.store ≡ old.node.store
 
--- it stands for each node that it stood for, and shows the same
+-- the service stands for each node that it stood for, and shows the same
 pub record Stays {D : Type 0} (old new : Served D) : Type 0 where
   pub same : (s : Node) → IsNodeOf old.node s → IsNodeOf new.node s
   pub others : KeepsOthers old.node new.node

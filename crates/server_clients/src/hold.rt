@@ -5,7 +5,7 @@ ghost use Rattle.server_clients.specs.Holding.{is_held};
 
 use server_times::Times;
 
-/// What follows the responses that wait on a connection, and for how long.
+/// What follows the responses that wait on a connection, and how long ago bytes came.
 #[derive(Clone, Copy, Debug, PartialEq, Eq, Drop)]
 pub struct Hold {
     /// Whether the next request is there whole, and asks for a receipt.

@@ -1,5 +1,5 @@
 //! The clients of a server: what each sent and is owed, on 64 seats; those that have their last response; and
-//! a node that answers them. It stands apart from `server` so that it is proved beside `server_pace`.
+//! a node that answers them. It is a crate apart from `server` so that it is proved beside `server_pace`.
 #![tactic(auto)]
 
 mod hold;

@@ -5,9 +5,9 @@ ghost use Rattle.server_clients.specs.Lingering.{is_over};
 
 use server_times::Times;
 
-/// How many bytes of a client are dropped at most. No client sends as many before it reads its response, as a
-/// line of a gigabit a second needs half a second for them. And a client that sends without end is read no
-/// longer than that.
+/// How many bytes of a client are dropped at most. No client sends as many before it reads its response: a
+/// line of a gigabit a second needs half a second for them. A client that sends without end is not read
+/// further.
 const DROPPED: u64 = 64 * 1024 * 1024;
 
 /// How a connection lingers that has its last response.

@@ -11,10 +11,10 @@ use http_serve::{ReadOutcome, is_early};
 use server_times::Times;
 use std::io::Read;
 
-/// How many readings of a stream come in a step at most, so that it holds nobody up.
+/// How many times a stream is read in a step at most, so that it holds nobody up.
 const READS: u32 = 16;
 
-/// How many bytes a reading takes at most.
+/// How many bytes a read takes at most.
 const PIECE: usize = 4096;
 
 /// A stream whose writing half is shut down: its client's last response is on the way, and the client may

@@ -15,8 +15,8 @@ use std::io::Read;
 const PARTINGS: usize = 64;
 
 /// The streams of clients that have their last response, in the order in which they were shut down, 64 at
-/// most. Each is read, and what comes is dropped, until its client closes. None has a seat. All room is made
-/// at the beginning, so none is lost because an allocation fails.
+/// most. Each is read, and what comes is dropped, until its client closes. None has a seat. All room is
+/// allocated at the beginning, so none is lost because an allocation fails.
 #[derive(Drop)]
 pub struct Partings<S> {
     times: Times,

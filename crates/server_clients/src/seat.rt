@@ -19,7 +19,7 @@ use site_disk::Disk;
 use std::alloc::{AllocError, Global};
 use std::io::{Read, Write};
 
-/// A connection and its stream: who gives one away gives the other. Times are milliseconds since the server
+/// A connection and its stream, which are always given away together. Times are milliseconds since the server
 /// began.
 #[derive(Drop)]
 pub struct Seat<S> {
@@ -89,7 +89,7 @@ impl<S> Seat<S> {
         }
     }
 
-    /// Whether its next request is left, as it asks for a receipt that is not there yet.
+    /// Whether its next request is left, because it asks for a receipt that is not there yet.
     fn is_left<D: Disk>(&self, served: &Served<D>, times: Times, now: u64) -> bool
         ensures { IsTrue result ↔ IsLeft offered times now served.now self.now }
     {

@@ -30,8 +30,8 @@ pub struct Seats<S> {
     ghost within: { vec_len seats ≤ 64 },
 }
 
-/// Of the seat found so far, with the moment since when it was silent, and the next one: whichever was silent
-/// longer. If both were silent equally long, it is the one found.
+/// The seat that was silent longer: the one found so far, with the moment since when it was silent, or the
+/// next one. If both were silent equally long, it is the one found.
 fn earlier(found: Option<(usize, u64)>, i: usize, since: Option<u64>) -> Option<(usize, u64)>
     ensures { result ≡ earlier found i since }
 {
@@ -70,7 +70,7 @@ impl<S: Drop> Seats<S> {
         self.seats.len()
     }
 
-    /// Of the clients that may go for another one, the seat of the one that was silent longest.
+    /// The seat of the client that was silent longest, of those that may go for another one.
     fn first_to_go(&self, now: u64) -> Option<usize>
         ensures { MatchOption result (NoneGoes self.now.times now self.now.seats.items)
             (IsFirstToGo self.now.times now self.now.seats.items) }

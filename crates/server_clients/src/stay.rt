@@ -15,8 +15,8 @@ pub struct Stay {
 }
 
 impl Stay {
-    /// Whether a connection is closed. It is if nothing moves in the midst of a request or a response, if
-    /// they take longer than they may, or if no further request begins for long.
+    /// Whether a connection is closed: nothing moves within a request or a response, or these take longer
+    /// than they may, or no further request begins for long.
     pub fn is_too_long(self, times: Times) -> bool
         ensures { IsTrue result ↔ IsTooLong self times }
     {

@@ -28,17 +28,17 @@ IsSaid (server_fault.Record fault) said = (said ≡ line_of (server_fault.Record
     ⊎ (said ≡ line_of server_fault.OutOfMemory)
 IsSaid why said = said ≡ line_of why
 
--- what a fault of reaches is for a server
+-- a fault of reaches, as a server's fault
 abbrev pub of_floor : FloorFault → ServerFault
 of_floor floor_fault.OutOfMemory = server_fault.OutOfMemory
 of_floor fault = server_fault.BadFloor fault
 
--- what a record's fault is for a server
+-- a record's fault, as a server's fault
 abbrev pub of_record : RecordFault → ServerFault
 of_record record_fault.OutOfMemory = server_fault.OutOfMemory
 of_record fault = server_fault.Record fault
 
--- what a node's fault is for a server. A drive ends by no other than these
+-- a node's fault, as a server's fault. A drive ends by no other than these
 abbrev pub of_node : NodeFault → ServerFault
 of_node node_fault.Device = server_fault.Stopped
 of_node node_fault.Stopped = server_fault.Stopped

@@ -27,7 +27,7 @@ damaged_line path at =
     codes "record " ++ (path
     ++ (codes ": it has bytes that no node wrote, from byte " ++ (decimal at ++ codes " on\n")))
 
--- the line was given, or, if an allocation failed, nothing
+-- the line was given, or nothing if an allocation failed
 abbrev pub GivesLine : End → List ℕ → Type 0
 GivesLine e line = GivesNone e ⊎ IsGiven e line
 
@@ -35,9 +35,9 @@ GivesLine e line = GivesNone e ⊎ IsGiven e line
 abbrev pub GivesWhy : End → List ℕ → List ℕ → Type 0
 GivesWhy e what which = GivesNone e ⊎ ((cause : List ℕ) × IsGiven e (why_line what which cause))
 
--- The line is about the record that was named if the fault is the record's, about an address if it is a
--- socket's, and about a word or an option if it is the command line's. After any other fault there is no such
--- line. Of the cause nothing is claimed
+-- If the fault is the record's, the line is about the record that was named. If it is a socket's, the line is
+-- about an address; if it is the command line's, about a word or an option. After any other fault there is no
+-- such line. Nothing is claimed about the cause
 abbrev pub SaysWhy : End → ServeOptions → ServerFault → Type 0
 SaysWhy e o server_fault.BadAddress = (word : List ℕ) × GivesWhy e (codes "bad address ") word
 SaysWhy e o (server_fault.BadFloor _) = GivesWhy e (codes "bad floor ") (codes "--above")
@@ -46,7 +46,7 @@ SaysWhy e o server_fault.Stopped = GivesWhy e (codes "record ") o.record.now
 SaysWhy e o server_fault.Socket = (word : List ℕ) × GivesWhy e (codes "address ") word
 SaysWhy e o _ = GivesNone e
 
--- that is said if it was asked for, and otherwise nothing is
+-- why the fault happened is said if it was asked for, and otherwise nothing is said
 abbrev pub SaysWhyIf : Bool → End → ServeOptions → ServerFault → Type 0
 SaysWhyIf true e o why = SaysWhy e o why
 SaysWhyIf false e o why = GivesNone e

@@ -6,9 +6,9 @@ use std::io;
 /// something. It is filled in as parts are opened, and read if the server says why it halted.
 #[derive(Clone, Copy, Drop)]
 pub struct Cause {
-    /// The address for datagrams; if false, the address of requests.
+    /// Whether it is the address for datagrams; if not, it is the address of requests.
     pub datagrams: bool,
-    /// Another process has the record.
+    /// Whether another process has the record.
     pub locked: bool,
     pub error: Option<io::Error>,
 }

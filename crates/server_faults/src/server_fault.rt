@@ -69,7 +69,7 @@ impl From<RecordFault> for ServerFault {
     }
 }
 
-/// A drive ends by no fault of a node except these.
+/// These are the only faults of a node by which a drive ends.
 impl From<NodeFault> for ServerFault {
     ghost use Rattle.std.specs.Prelude.{◌≡◌};
     ghost use Rattle.server_faults.specs.ServerFaults.{of_node};

@@ -1,6 +1,6 @@
 //! Why a server halted: a line after that of the fault, if that was asked for.
 //!
-//! It is a line of its own, so that each line of a fault stays as the formats have it.
+//! It is a line of its own, so that the line of a fault stays as the formats have it.
 
 ghost use Rattle.std.specs.Prelude.{◌≡◌, ℕ, List, IfOk, codes, string_bytes};
 ghost use Rattle.http_read.specs.Bytes.{end_of};
@@ -38,7 +38,7 @@ fn words(alloc: Global, error: io::Error) -> Result<String, AllocError> {
     format!(in alloc; "{error}")
 }
 
-/// The same if the system reported something, or else these words.
+/// Writes the system's own words if it reported something, or else these words.
 fn tell_cause<E: Write>(
     alloc: Global,
     err: &mut Counted<E>,
@@ -59,8 +59,8 @@ fn tell_cause<E: Write>(
     }
 }
 
-/// What is wrong with a record of which the system reported nothing. The record was to be made above a floor,
-/// or not.
+/// What is wrong with a record about which the system reported nothing. `above` says that the record was to
+/// be made above a floor.
 fn wrong_with(fault: RecordFault, cause: &Cause, above: bool) -> &'static str {
     match fault {
         RecordFault::NotARecord if above => {
@@ -123,7 +123,7 @@ fn wrong_with_reaches(fault: FloorFault) -> &'static str {
     }
 }
 
-/// Says why a record is refused. The record was to be made above a floor, or not.
+/// Says why a record is refused. `above` says that the record was to be made above a floor.
 pub fn say_why_of_record<E: Write>(
     alloc: Global,
     err: &mut Counted<E>,
@@ -154,7 +154,7 @@ pub fn say_where_of_record<E: Write>(alloc: Global, err: &mut Counted<E>, path: 
     }
 }
 
-/// Says why it halted, if that is more than its line says.
+/// Says why the server halted, if that is more than the line of the fault says.
 fn say_cause<E: Write>(
     alloc: Global,
     err: &mut Counted<E>,
@@ -205,7 +205,7 @@ fn say_cause<E: Write>(
     }
 }
 
-/// Says after its line why it halted, if that was asked for (`--verbose`).
+/// Says after the line of the fault why the server halted, if that was asked for (`--verbose`).
 pub fn say_why<E: Write>(
     alloc: Global,
     err: &mut Counted<E>,

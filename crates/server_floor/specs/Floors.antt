@@ -29,14 +29,14 @@ Refuses n p told _ = ⊥
 
 -- ---- in words
 
--- the words say the floor
+-- the words give this floor
 pub record NamesFloor (n p : ℕ) (words : List (List ℕ)) (floor : ℕ) : Type 0 where
   pub told : List Told
   pub fit : AreFitting told
   pub spell : map spelled told ≡ words
   pub is : IsFloorAbove n p told floor
 
--- a word is not a node and its reach; or what they say is refused
+-- a word is not a node and its reach; or the reaches that the words spell are refused
 abbrev pub RefusesWords : ℕ → ℕ → List (List ℕ) → FloorFault → Type 0
 RefusesWords n p words NotTold = (told : List Told) → AreFitting told → map spelled told ≢ words
 RefusesWords n p words OutOfMemory = ⊥

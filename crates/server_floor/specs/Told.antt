@@ -4,7 +4,7 @@ use Rattle.site_ids.specs.Ids.{IsNode}
 use Rattle.site_ids.specs.Lists.{In}
 use Rattle.server_floor.specs.declared.told.Told.{Told}
 
--- it is of a node of some group, and its number is below 2^64
+-- it is about a node of some group, and its reach is below 2^64
 abbrev pub Fits : Told → Type 0
 Fits t = IsNode 9 t.node × (t.reach < 2 ^ 64)
 
@@ -23,6 +23,6 @@ abbrev pub furthest : List Told → ℕ
 furthest [] = 0
 furthest (t ∷ told) = max t.reach (furthest told)
 
--- each is of a node of the n, and none is of node p
+-- each is about a node of the n, and none is about node p
 abbrev pub AreOthers : ℕ → ℕ → List Told → Type 0
 AreOthers n p told = (t : Told) → In told t → IsNode n t.node × (t.node ≢ p)

@@ -7,7 +7,7 @@ ghost use Rattle.server_floor.specs.Told.{nodes_of, furthest, AreOthers};
 use crate::told::Told;
 use site_ids::{Cluster, NodeId};
 
-/// Whether each is of a node of the group, and none is of this one.
+/// Whether each is about a node of the group, and none is about this one.
 pub(crate) fn are_others(cluster: Cluster, me: NodeId, told: &[Told]) -> bool
     ensures { IsTrue result ↔ AreOthers cluster me told.now }
 {
@@ -19,7 +19,7 @@ pub(crate) fn are_others(cluster: Cluster, me: NodeId, told: &[Told]) -> bool
     true
 }
 
-/// Whether one is of that node.
+/// Whether one is about that node.
 fn is_among(told: &[Told], node: NodeId) -> bool
     ensures { IsTrue result ↔ In (nodes_of told.now) node }
 {

@@ -12,10 +12,10 @@ use proposer::MAX_ATTEMPTS;
 use site_ids::{Cluster, Instance, MAX_INSTANCE, NodeId};
 use std::alloc::Global;
 
-/// The last reach above which there is a floor.
+/// The greatest reach above which there is a floor.
 const LAST: u64 = MAX_INSTANCE as u64 - MAX_ATTEMPTS as u64;
 
-/// What the words say, if they say it.
+/// The reaches that the words spell, if they do.
 fn told_each(alloc: Global, words: &[&str]) -> Result<Vec<Told>, FloorFault>
     ensures told { IfOk result (λ told. AreFitting told.items
         × (map spelled told.items ≡ map (λ w. w.now) words.now)) }

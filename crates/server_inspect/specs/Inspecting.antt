@@ -7,7 +7,7 @@ use Rattle.server_faults.specs.Why.{GivesLine, GivesNone, GivesWhy, behind, dama
 use Rattle.server_inspect.specs.Views.{text_of}
 use Rattle.server_inspect.specs.declared.view.View.{View}
 
--- its lines, and nothing else
+-- the lines were printed, and nothing else
 abbrev HasPrinted : End → End → ℕ → Type 0
 HasPrinted out err status = (view : View) × IsWritten out (text_of view) × GivesNone err × (status ≡ 0)
 
@@ -16,7 +16,7 @@ abbrev HasBroken : End → End → ℕ → Type 0
 HasBroken out err status = (view : View) × IsBroken out (text_of view) × IsGiven err (codes "write failed\n")
     × (status ≡ 1)
 
--- an allocation failed for them
+-- an allocation failed for the lines
 abbrev HasNoMemory : End → End → ℕ → Type 0
 HasNoMemory out err status = IsSilent out × IsGiven err (codes "out of memory\n") × (status ≡ 1)
 

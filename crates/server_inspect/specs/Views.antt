@@ -30,8 +30,9 @@ pub record IsViewOf (entries : List Entry) (view : View) : Type 0 where
 abbrev pub Names : ℕ → ℕ → List ℕ → Type 0
 Names p n file = (slice_index file 8 ≡ p) × (slice_index file 9 ≡ n)
 
--- An opening by the node and the group that the head names is refused so. If it names no node of a group, the
--- record is another node's to each. A record whose last gate an accident shut is damaged too
+-- An opening by the node and the group that the head names is refused with this fault. If the head names no
+-- node of a group, the record is another node's for each node. A record whose last gate an accident shut is
+-- damaged too
 abbrev pub IsRefused : RecordFault → List ℕ → Type 0
 IsRefused Damaged file = IsRefusal Damaged (slice_index file 8) (slice_index file 9) file
     ⊎ ((gate : ℕ) × IsCutAt (slice_index file 8) (slice_index file 9) gate file)

@@ -17,7 +17,7 @@ pub(crate) struct Counts {
     pub last: u32,
 }
 
-/// One more if that holds.
+/// `many`, and one more if `is` holds.
 fn counted(many: u32, is: bool) -> u32
     requires { many < 2 ^ 32 - 1 }
     ensures { result ≡ (if is then many + 1 else many) }
@@ -31,7 +31,7 @@ fn either(a: bool, b: bool) -> bool
     a || b
 }
 
-/// This instance if that holds, or else the last one so far.
+/// This instance if `is` holds, or else the last one so far.
 fn last_of(last: u32, number: u32, is: bool) -> u32
     ensures { result ≡ (if is then number else last) }
 {

@@ -16,7 +16,8 @@ use std::io;
 use std::io::Write;
 use std::rt::Files;
 
-/// How often a file is read that seems damaged: a node may have written over a torn end while it was read.
+/// How many times a file that seems damaged is read: a node may have written over a torn end while it was
+/// read.
 const READS: u32 = 10;
 
 /// The file as it is now.

@@ -1,8 +1,8 @@
 //! A file as it is at a moment, while another process may append to it.
 //!
-//! A node writes after its last gate, and then opens it. What stands after an open gate never changes, so
-//! only the gate at the end might be read open while what it opens lies past the length that was taken: its
-//! byte is read once, between two looks at the length that agree.
+//! A node writes after its last gate, and then opens it. What follows an open gate never changes. Only the
+//! gate at the end might be read open while what it opens is past the length that was taken. So its byte is
+//! read once, between two looks at the length that agree.
 
 ghost use Rattle.std.specs.Prelude.{◌≡◌};
 
@@ -19,8 +19,8 @@ pub struct End {
     pub last: u8,
 }
 
-/// A file that is read up to an end, and never written or synced. As of each real file no state of the model
-/// is claimed of it.
+/// A file that is read up to an end, and never written or synced. As for each real file, no clause says that
+/// it stands for a state of the model.
 #[derive(Drop)]
 pub struct Snapshot {
     file: FileDisk,
@@ -50,7 +50,7 @@ fn end_at_rest(file: &mut FileDisk) -> Result<End, DiskFailed> {
 }
 
 impl Snapshot {
-    /// The file as it is now. If it cannot be read, it is given back.
+    /// The file as it is now. If it cannot be read, it is returned.
     pub fn new(file: File) -> Result<Snapshot, FileDisk> {
         let mut file = FileDisk::new(file);
         match end_at_rest(&mut file) {

@@ -99,7 +99,7 @@ impl View {
         }
     }
 
-    /// What is reported of the record on a disk. A refusal gives the disk back.
+    /// What is reported of the record on a disk. A refusal returns the disk.
     pub fn of<D: Disk + Drop>(alloc: Global, disk: D) -> Result<View, (RecordFault, D)>
         ensures viewed { IfOk result (λ v. (entries : List Entry) × IsViewOf entries v
             × ((d : DiskState) → D.stands_for disk d

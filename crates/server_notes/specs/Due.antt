@@ -1,4 +1,4 @@
--- What a server has to say, and what it may say. Moments are milliseconds since it began.
+-- What a server has to report, and what it may report. Moments are milliseconds since it began.
 use Rattle.std.specs.Prelude.{◌≡◌, ℕ, ◌-◌, ◌/◌, ◌<◌, List, [], ◌∷◌, replicate, get_or, set, Bool, true, false}
 use Rattle.std.specs.Prelude.{nat_eq, nat_le, if◌then◌else◌, Option, Some, None}
 use Rattle.server_notes.specs.Listening.{first_listening, silence_at, FindsSilent, FindsEnded}
@@ -29,8 +29,8 @@ first_notes n me votes floor = record {
   said = replicate 14 None;
 }
 
--- where it stands once that many values are known, values up to `reached` were heard of, and a majority is
--- heard or not
+-- how far it has caught up, with `known` values known, values up to `reached` heard of, and a majority heard
+-- or not
 abbrev pub following : Catching → Bool → ℕ → ℕ → ℕ → Catching
 following c majority now known reached =
     learned_at (if majority then joined_at c now known reached else c) now known reached
@@ -46,8 +46,8 @@ abbrev pub opened_of : Option ℕ → Option Note
 opened_of None = None
 opened_of (Some votes) = Some (note.Opened votes)
 
--- the first node whose silence is to be reported, and the first the end of whose silence is; `millis` is how
--- long it is
+-- the first node whose silence is to be reported, and the first whose silence has ended, which is to be
+-- reported; `millis` is the length of that silence
 abbrev pub silent_of : Option (ℕ × ℕ) → Option Note
 silent_of None = None
 silent_of (Some (p, millis)) = Some (note.Silent p (millis / 1000))
@@ -56,7 +56,7 @@ abbrev pub heard_of : Option (ℕ × ℕ) → Option Note
 heard_of None = None
 heard_of (Some (p, millis)) = Some (note.Heard p (millis / 1000))
 
--- what is due, of each kind in its place, where these nodes are silent and heard again
+-- what is due, each kind at its index, if these nodes are silent or heard again
 abbrev pub due_notes : Notes → ℕ → ℕ → ℕ → Option (ℕ × ℕ) → Option (ℕ × ℕ) → List (Option Note)
 due_notes n now known newest silent ended =
     let m = n.listening.majority in
@@ -76,7 +76,7 @@ due_notes n now known newest silent ended =
     ∷ figures_note n.hours known newest
     ∷ []
 
--- a line of a kind that was last said then, or never, may be said if a second has passed since
+-- a line of a kind may be reported if none was, or a second has passed since the last one
 abbrev pub is_free : Option ℕ → ℕ → Bool
 is_free None now = true
 is_free (Some said) now = nat_le EACH (now - said)
@@ -84,7 +84,7 @@ is_free (Some said) now = nat_le EACH (now - said)
 abbrev pub may_say : List (Option ℕ) → ℕ → List (Option Note) → ℕ → Option Note
 may_say said now due kind = if is_free (get_or said kind None) now then get_or due kind None else None
 
--- it was said: it is due no more
+-- this was reported: it is no longer due
 abbrev pub settled : Notes → ℕ → Note → Notes
 settled n now (note.Opened votes) = record n { votes = None }
 settled n now (note.Mute instance) = record n { muteness = Said instance }
@@ -118,8 +118,8 @@ settled n now (note.Published release instance) =
 settled n now (note.Began instance) = record n { publishing = record n.publishing { began = true } }
 settled n now (note.Figures instance release bytes memory) = record n { hours = hour_after now }
 
--- this is the first that is due and may be said; then a second goes by before a line of its kind is said
--- again
+-- this is the first line that is due and may be reported; then a second passes before another line of its
+-- kind
 pub record IsNext (old : Notes) (now : ℕ) (due : List (Option Note)) (note : Note)
     (new : Notes) : Type 0 where
   pub kind : ℕ
@@ -128,12 +128,12 @@ pub record IsNext (old : Notes) (now : ℕ) (due : List (Option Note)) (note : N
   pub first : (k : ℕ) → k < kind → may_say old.said now due k ≡ None
   pub after : new ≡ record (settled old now note) { said = set old.said kind (Some now) }
 
--- that is said, or nothing is to be said
+-- that line is reported, or there is none
 abbrev pub SaysOf : Notes → ℕ → List (Option Note) → Option Note → Notes → Type 0
 SaysOf old now due (Some note) new = IsNext old now due note new
 SaysOf old now due None new = ((k : ℕ) → k < 14 → may_say old.said now due k ≡ None) × (new ≡ old)
 
--- A server says this next, if that many values are known and that release is the newest
+-- The server reports this next, if `known` values are known and `newest` is the newest release
 pub record Says (old : Notes) (now known newest : ℕ) (next : Option Note) (new : Notes) : Type 0 where
   pub silent : Option (ℕ × ℕ)
   pub ended : Option (ℕ × ℕ)

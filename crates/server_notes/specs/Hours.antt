@@ -1,4 +1,4 @@
--- What a server says of its size, each hour. Moments are milliseconds since it began.
+-- What a server reports of its size, each hour. Moments are milliseconds since it began.
 use Rattle.std.specs.Prelude.{ℕ, ◌+◌, ◌/◌, Bool, nat_le, Option, Some, None}
 use Rattle.server_notes.specs.declared.hours.Figures.{Figures}
 use Rattle.server_notes.specs.declared.hours.Hours.{Hours}
@@ -9,11 +9,11 @@ use Rattle.server_notes.specs.declared.note.Note.TheVariants as note
 abbrev pub no_hour : Hours
 no_hour = record { next = 0; taken = None }
 
--- in the first hour, and in each one after it, once
+-- once in the first hour, and once in each hour after it
 abbrev pub is_hour : Hours → ℕ → Bool
 is_hour h now = nat_le h.next (now / HOUR)
 
--- the next hour after that moment is the next
+-- figures are due next in the hour after that moment
 abbrev pub hour_after : ℕ → Hours
 hour_after now = record { next = now / HOUR + 1; taken = None }
 

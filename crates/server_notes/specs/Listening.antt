@@ -1,4 +1,4 @@
--- Whom a server hears. Node p has the place p - 1 of nine.
+-- Whom a server hears. Node p is at index p - 1 of nine.
 use Rattle.std.specs.Prelude.{◌≡◌, ◌≢◌, ℕ, ◌+◌, ◌-◌, ◌/◌, ◌<◌, ◌≤◌, List, replicate, get_or, Bool, true}
 use Rattle.std.specs.Prelude.{false, IsTrue, ◌↔◌, Option, Some, None, if◌then◌else◌}
 use Rattle.site_ids.specs.Ids.{IsNode}
@@ -16,22 +16,22 @@ first_listening n me = record {
   majority = no_silence;
 }
 
--- those that came, and the server itself
+-- the nodes from which something came, and the server itself
 abbrev pub heard_by : ℕ → List Bool → List Bool
 heard_by me heard = with_node heard me
 
--- whose silence it is
+-- the silence of the node at index i
 abbrev pub silence_at : List Silence → ℕ → Silence
 silence_at silences i = get_or silences i no_silence
 
--- the silences of those that are heard end, the others' go on
+-- the silences of nodes that are heard end, the others' go on
 abbrev pub AreHeard : List Silence → List Bool → ℕ → List Silence → Type 0
 AreHeard old heard now new =
     (i : ℕ) → i < 9 → silence_at new i
     ≡ (if get_or heard i false then heard_at (silence_at old i) now else silence_at old i)
 
--- A server of n hears a majority each time that more than half of the nodes were heard since it did last,
--- itself included
+-- A server of n hears a majority each time that more than half of the nodes, itself included, were heard
+-- since it last did
 pub record Hears (old : Listening) (now : ℕ) (heard : List Bool) (majority : Bool)
     (new : Listening) : Type 0 where
   pub silences : AreHeard old.silences (heard_by old.me heard) now new.silences
@@ -57,7 +57,8 @@ abbrev pub FindsSilent : Listening → ℕ → Option (ℕ × ℕ) → Type 0
 FindsSilent l now (Some x) = IsFirstSilent l now x.0 x.1
 FindsSilent l now None = (p : ℕ) → IsNode l.cluster p → is_long (silence_at l.silences (p - 1)) now ≡ false
 
--- node p is the first the end of whose silence is to be reported, and this was its length
+-- node p is the first whose silence has ended, which is to be reported, and this was the length of the
+-- silence
 pub record IsFirstEnded (l : Listening) (p millis : ℕ) : Type 0 where
   pub node : IsNode l.cluster p
   pub ended : millis ≢ 0

@@ -1,4 +1,4 @@
--- When a server says what. Moments are milliseconds since it began.
+-- When a server reports what. Moments are milliseconds since it began.
 use Rattle.std.specs.Prelude.{ℕ, ◌-◌, ◌/◌, Bool, false, ◌&&◌, ◌||◌, nat_eq, nat_le, nat_lt, if◌then◌else◌}
 use Rattle.server_notes.specs.declared.catching.Catching.{Catching}
 use Rattle.server_notes.specs.declared.catching.Catching.TheVariants.{Alone, Since}
@@ -35,8 +35,8 @@ abbrev pub joined_at : Catching → ℕ → ℕ → ℕ → Catching
 joined_at Alone now known reached = Since now known reached
 joined_at c now known reached = c
 
--- The time begins anew with each 64 values that became known; and where it has passed, and what was heard of
--- in its first part is not known
+-- The time begins anew after each 64 values that became known. It also does if it has passed and a value that
+-- was heard of in its first part is not known
 abbrev pub learned_at : Catching → ℕ → ℕ → ℕ → Catching
 learned_at (Since at before reach) now known reached =
     if nat_le MANY (known - before)
@@ -44,8 +44,8 @@ learned_at (Since at before reach) now known reached =
     else Since at before (if nat_lt (now - at) HEARING then reached else reach)
 learned_at c now known reached = c
 
--- for two seconds it hears a majority, and fewer than 64 values became known; and those up to the furthest
--- that it heard of in their first part are
+-- for two seconds it hears a majority, and fewer than 64 values became known; and all values that it heard of
+-- in the first part of that time are known
 abbrev pub has_settled : Catching → ℕ → ℕ → Bool
 has_settled (Since at before reach) now known = nat_le SETTLING (now - at) && nat_le reach known
 has_settled c now known = false

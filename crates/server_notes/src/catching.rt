@@ -6,17 +6,17 @@ ghost use Rattle.server_notes.specs.Noting.{joined_at, learned_at, has_settled};
 /// Milliseconds in which few values become known once a server has caught up.
 const SETTLING: u64 = 2000;
 
-/// What is heard of in the first that many of them is to be known by their end, which is enough for a
-/// question and its answer. What is heard of later may be tried just then.
+/// What is heard of in this first part of `SETTLING` has to be known at its end: the rest is enough for a
+/// question and its answer. A value that is heard of later may just be tried.
 const HEARING: u64 = 1500;
 
-/// This many values in that time are not few: one whole telling of another node.
+/// At least this many values in that time are not few: one whole telling of another node.
 const MANY: u32 = 64;
 
-/// Where a server stands after its start or an absence.
+/// How far a server has caught up after its start or an absence.
 #[derive(Clone, Copy, Drop)]
 pub enum Catching {
-    /// It was said that it caught up.
+    /// It was reported that it caught up.
     Done,
     /// It hears no majority.
     Alone,

@@ -41,7 +41,7 @@ impl Hours {
         self.next <= now / HOUR
     }
 
-    /// These were taken.
+    /// These figures were taken.
     pub(crate) fn taken(self, figures: Figures) -> Hours
         ensures { result ≡ record self { taken = Some figures } }
     {
@@ -51,7 +51,7 @@ impl Hours {
         }
     }
 
-    /// The line of what was taken. `known` values are known, and `newest` is the newest release.
+    /// The line of the figures that were taken. `known` values are known, and `newest` is the newest release.
     pub(crate) fn figures(self, known: u32, newest: u64) -> Option<Note>
         ensures { result ≡ figures_note self known newest }
     {
@@ -66,7 +66,7 @@ impl Hours {
         }
     }
 
-    /// They were reported.
+    /// The figures were reported.
     pub(crate) fn said(now: u64) -> Hours
         ensures { result ≡ hour_after now }
     {

@@ -1,5 +1,5 @@
-//! What a server says to who runs it, and when, by a moment in milliseconds: data and pure functions, without
-//! a clock.
+//! What a server reports to whoever runs it, and when, given the moment in milliseconds. Data and pure
+//! functions, without a clock.
 #![tactic(auto)]
 
 mod catching;

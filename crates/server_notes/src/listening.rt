@@ -9,8 +9,8 @@ ghost use Rattle.server_notes.specs.Noting.{told_at, ended_told};
 use crate::silence::Silence;
 use site_ids::{Cluster, NodeId, NodeSet};
 
-/// How long each node was not heard, and a majority. A majority is heard each time that as many different
-/// nodes were. A server hears itself.
+/// For how long each node, and a majority, was not heard. A majority is heard each time that as many
+/// different nodes were. A server hears itself.
 #[derive(Clone, Copy, Drop)]
 pub struct Listening {
     cluster: Cluster,
@@ -55,7 +55,7 @@ impl Listening {
         }
     }
 
-    /// Something came of these nodes: whether a majority is heard by that.
+    /// Something came from these nodes. Returns whether a majority is heard now.
     pub fn hear(&mut self, now: u64, heard: NodeSet) -> bool
         ensures { Hears self.old now heard result self.new }
     {
@@ -70,7 +70,7 @@ impl Listening {
         true
     }
 
-    /// The first node whose silence is due to be reported, and its length in milliseconds.
+    /// The first node whose silence is due to be reported, and the length of that silence in milliseconds.
     pub fn first_silent(&self, now: u64) -> Option<(NodeId, u64)>
         ensures { FindsSilent self.now now result }
     {
@@ -84,7 +84,8 @@ impl Listening {
         None
     }
 
-    /// The first node the end of whose silence is due to be reported, and its length in milliseconds.
+    /// The first node whose silence has ended, which is due to be reported, and the length of that silence in
+    /// milliseconds.
     pub fn first_ended(&self) -> Option<(NodeId, u64)>
         ensures { FindsEnded self.now result }
     {

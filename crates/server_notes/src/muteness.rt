@@ -1,19 +1,19 @@
-//! Whether a server's node is mute, and what was said of it.
+//! Whether a server's node is mute, and what was reported of it.
 
 ghost use Rattle.std.specs.Prelude.{◌≡◌};
 ghost use Rattle.server_notes.specs.Muteness.{first_muteness, mute_note, ended_note};
 
 use crate::note::Note;
 
-/// Of a node whose record took the place of a lost one: until it knows all values up to its floor it promises
-/// and votes for nothing there, and tries nothing.
+/// The muteness of a node whose record took the place of a lost one. Until it knows all values up to its
+/// floor it promises and votes for nothing there, and tries nothing.
 #[derive(Clone, Copy, Drop)]
 pub enum Muteness {
-    /// It has no floor, or its end was said.
+    /// The node has no floor, or the end of its muteness was reported.
     Over,
-    /// Nothing was said of it yet.
+    /// Nothing was reported yet.
     Unsaid { floor: u32 },
-    /// It was said that the node is mute up to there.
+    /// It was reported that the node is mute up to its floor.
     Said { floor: u32 },
 }
 
@@ -29,7 +29,7 @@ impl Muteness {
         }
     }
 
-    /// What is to be said at the beginning.
+    /// The line at the beginning.
     pub(crate) fn beginning(self) -> Option<Note>
         ensures { result ≡ mute_note self }
     {
@@ -39,7 +39,7 @@ impl Muteness {
         }
     }
 
-    /// The line of its end, which is due once all values up to its floor are known.
+    /// The line of the end, which is due as soon as all values up to the floor are known.
     pub(crate) fn end(self, known: u32) -> Option<Note>
         ensures { result ≡ ended_note self known }
     {

@@ -1,9 +1,9 @@
-//! What a server says on standard error.
+//! What a server reports on standard error.
 
 use site_ids::NodeId;
 use std::fmt;
 
-/// An event that matters to who runs a server. Its `Display` is its line, without the newline.
+/// An event that matters to whoever runs a server. Its `Display` is its line, without the newline.
 #[derive(Clone, Copy, Debug, PartialEq, Eq, Drop)]
 pub enum Note {
     /// The server is ready, and its record has that many votes.
@@ -15,47 +15,47 @@ pub enum Note {
     Mute {
         instance: u32,
     },
-    /// It knows all values up to its floor: it takes part in all that follows.
+    /// It knows all values up to its floor: from now on it takes part in everything.
     NoLongerMute,
     /// After a start or an absence: it knows all values up to this instance, and all that it heard of except
-    /// in the last moments; and little more comes.
+    /// in the last moments. Few more values become known.
     CaughtUp {
         instance: u32,
     },
-    /// For that long no majority was heard, itself included.
+    /// For this long no majority was heard. The server counts itself.
     NoMajority {
         seconds: u64,
     },
-    /// A majority is heard, after it was not for that long.
+    /// A majority is heard again, after this long.
     Majority {
         seconds: u64,
     },
-    /// For that long this node was not heard.
+    /// For this long this node was not heard.
     Silent {
         node: NodeId,
         seconds: u64,
     },
-    /// This node is heard, after it was not for that long.
+    /// This node is heard again, after this long.
     Heard {
         node: NodeId,
         seconds: u64,
     },
-    /// That many datagrams came that spell no message.
+    /// How many datagrams came that spell no message.
     Malformed {
         count: u64,
     },
-    /// That many connections, each the one that was silent longest, were closed for further clients.
+    /// How many connections were closed for further clients, each time the one that was silent longest.
     Displaced {
         count: u64,
     },
-    /// A response is owed on each connection, so that further clients wait.
+    /// A response is owed on every connection, so further clients wait.
     Full,
     /// This is the newest release, and was not reported yet; all values up to this instance are known.
     Published {
         release: u64,
         instance: u32,
     },
-    /// The value of this instance is known, the first that became known after the newest release was
+    /// The value of this instance is known: the first one that became known after the newest release was
     /// reported.
     Began {
         instance: u32,

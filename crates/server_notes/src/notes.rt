@@ -1,6 +1,7 @@
-//! What a server has to say.
+//! What a server has to report.
 //!
-//! Kinds have an order, and each its second, so that a flood of one keeps no other from being said.
+//! The kinds have an order, and each kind is reported at most once a second, so a flood of one does not hold
+//! back another.
 
 ghost use Rattle.std.specs.Prelude.{◌≡◌, ◌+◌, ◌^◌, ◌-◌, min, Bool, None, Some, if◌then◌else◌, ◌||◌};
 ghost use Rattle.server_notes.specs.Due.{counted, due_if, due_notes, first_notes, following, heard_of};
@@ -19,11 +20,11 @@ use site_ids::{Cluster, NodeId, NodeSet};
 /// Milliseconds between two lines of one kind, at least.
 pub const EACH: u64 = 1000;
 
-/// What a server heard of whom, what it counted, what it said last, and when. Moments are milliseconds since
-/// it began, none of them less than the one before.
+/// What a server heard from whom, what it counted, what it reported last, and when. Moments are milliseconds
+/// since it began, none of them less than the one before.
 #[derive(Clone, Copy, Drop)]
 pub struct Notes {
-    // of the record, until that is said
+    // the votes on the record, until they were reported
     votes: Option<u32>,
     muteness: Muteness,
     catching: Catching,
@@ -33,7 +34,7 @@ pub struct Notes {
     full: bool,
     publishing: Publishing,
     hours: Hours,
-    // when a line of each kind was said last, in the order of the kinds of `Note`
+    // when a line of each kind was reported last, in the order of the kinds of `Note`
     said: [Option<u64>; 14],
 }
 
@@ -86,7 +87,8 @@ impl Notes {
         self.full = self.full || full;
     }
 
-    /// What is due, of each kind in its place, where these nodes are silent and heard again.
+    /// What is due, each kind at its index. `silent` is the first node whose silence is due to be reported,
+    /// `ended` the first whose silence has ended.
     fn due(
         &self,
         now: u64,
@@ -121,7 +123,7 @@ impl Notes {
         ]
     }
 
-    /// This is said of a node, a majority or a start.
+    /// Notes that this was reported of a node, a majority or a start.
     fn settle(&mut self, now: u64, note: &Note)
         ensures { self.new ≡ settled self.old now note.now }
     {
@@ -150,7 +152,7 @@ impl Notes {
         }
     }
 
-    /// What of this is said next, if anything. It is due no more then.
+    /// The first of these that may be reported, if any. It is no longer due then.
     fn say(&mut self, now: u64, due: [Option<Note>; 14]) -> Option<Note>
         ensures { SaysOf self.old now due result self.new }
     {
@@ -179,7 +181,7 @@ impl Notes {
     }
 
     /// The next line, if one is due: at most one of each kind in a second. `known` values are known, and
-    /// `newest` is the newest release. A line that was said is no longer due.
+    /// `newest` is the newest release. A line that was reported is no longer due.
     pub fn next(&mut self, now: u64, known: u32, newest: u64) -> Option<Note>
         ensures { Says self.old now known newest result self.new }
     {
@@ -189,7 +191,7 @@ impl Notes {
     }
 }
 
-/// The line, if it was never said, or a second has passed since one of its kind was said.
+/// The line, if none of its kind was ever reported, or a second has passed since the last one.
 fn may_say(said: Option<u64>, now: u64, due: Option<Note>) -> Option<Note>
     ensures { result ≡ (if is_free said now then due else None) }
 {

@@ -26,7 +26,7 @@ impl Publishing {
         }
     }
 
-    /// A release is published that was not reported.
+    /// The line of a release that is published and was not reported.
     pub(crate) fn release(self, known: u32, newest: u64) -> Option<Note>
         ensures { result ≡ release_note self known newest }
     {
@@ -40,7 +40,7 @@ impl Publishing {
         }
     }
 
-    /// More is known than when the newest release was reported, and that was not reported.
+    /// The line that more became known since the newest release was reported, if that was not reported.
     pub(crate) fn beginning(self, known: u32, newest: u64) -> Option<Note>
         ensures { result ≡ began_note self known newest }
     {
@@ -53,7 +53,7 @@ impl Publishing {
         }
     }
 
-    /// This release was reported, while that many values are known.
+    /// This release was reported, when `known` values were known.
     pub(crate) fn released(release: u64, known: u32) -> Publishing
         ensures { result ≡ record { release = release; known = known; began = false } }
     {

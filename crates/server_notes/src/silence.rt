@@ -52,7 +52,7 @@ impl Silence {
         }
     }
 
-    /// It is heard, or not.
+    /// Notes whether it is heard.
     pub(crate) fn passed(self, heard: bool, now: u64) -> Silence
         ensures { result ≡ (if heard then heard_at self now else self) }
     {

@@ -30,13 +30,13 @@ use Rattle.server_times.specs.declared.times.Times.{Times}
 
 -- ---- ticks
 
--- none was wanted
+-- no tick is wanted
 abbrev pub first_ticking : Ticking
 first_ticking =
     record { since = None; first = None; known = 0; ticks = 0; longer = 0; at = None; resumes = false }
 
--- a value was just submitted, and nobody tries one: a tick begins to be wanted, and the last batch stirred
--- nothing
+-- a value was just submitted, and nobody tries one: a tick begins to be wanted, and the last batch delivered
+-- at most questions
 abbrev pub IsFresh : Ticking → Bool → Bool → Type 0
 IsFresh t wanted stirred = (wanted ≡ true) × (t.since ≡ None) × (stirred ≡ false)
 
@@ -45,14 +45,15 @@ abbrev pub is_one_more : Option ℕ → ℕ → Bool
 is_one_more None known = false
 is_one_more (Some at) known = nat_eq known (min (at + 1) (2 ^ 32 - 1))
 
--- a server without a stake leaves it to the others to decide, while their messages come: for so long
+-- a server without a stake leaves the decision to the others while their messages come, for times.leaving at
+-- most
 abbrev pub leaves : Ticking → Times → ℕ → Seen → Bool → Bool
 leaves t times now seen stirred =
     not seen.stake && (stirred && nat_lt (now - unwrap_or t.first now) times.leaving)
 
--- A tick is waited for since it began to be wanted, or something became known, or the server left it to the
--- others. Ticks in vain are forgotten where news came without a tick that was due; and where it is one value
--- more than at the last tick, of an own attempt, the next instance is tried at once
+-- A tick is waited for since it began to be wanted, or something became known, or the server left the
+-- decision to the others. Ticks in vain are forgotten if news came without a tick that was due. If the news
+-- is one value more than at the last tick, of an own attempt, the server tries the next instance at once
 abbrev pub noted : Ticking → Times → ℕ → Seen → Bool → Ticking
 noted t times now seen stirred =
     if nat_eq seen.known t.known
@@ -71,11 +72,11 @@ noted t times now seen stirred =
       resumes = seen.resumes && is_one_more t.at seen.known;
     }
 
--- the next tick is due at once and not a patience later
+-- the next tick is due at once, not a patience later
 abbrev pub GoesOn : Ticking → Type 0
 GoesOn t = (t.resumes ≡ true) × IsSome t.since
 
--- it would go on, and heard of nothing further
+-- it would go on, but it heard of no further instance
 abbrev pub awaits : Ticking → Bool
 awaits t = t.resumes && is_none t.since
 
@@ -83,19 +84,19 @@ awaits t = t.resumes && is_none t.since
 abbrev pub begun : Ticking → Ticking
 begun t = record t { at = Some t.known; resumes = false }
 
--- how many times the patience: after each tick once more, up to growth times in all; or longer, after ticks
--- in vain, and at least so much longer without a stake
+-- how many times the patience: once more after each tick, up to times.growth; or longer after ticks in vain,
+-- and by at least times.longer without a stake
 abbrev pub waited : Ticking → Times → Bool → ℕ
 waited t times stake =
     max (min (t.ticks + 1) times.growth) (max t.longer (if stake then 0 else times.longer) + 1)
 
--- the patience has passed so many times
+-- the patience has passed that many times
 abbrev pub Ticks : Ticking → ℕ → ℕ → Times → Bool → Type 0
 Ticks t now patience times stake =
     (since : ℕ) × (t.since ≡ Some since) × (patience * waited t times stake ≤ now - since)
 
--- A tick was in vain where a majority answered since, and nothing became known before the next one: after
--- each of a row it waits longer. One that no majority answered ends the row
+-- A tick was in vain if a majority answered since, and nothing became known before the next one: after each
+-- in a row the server waits longer. A tick that no majority answered ends the row
 abbrev pub longer_after : Ticking → Times → Bool → ℕ
 longer_after t times answered =
     if not answered then 0
@@ -115,7 +116,8 @@ abbrev pub first_yielding : Yielding
 first_yielding =
     record { tried = no_nodes; tries = None; last = None; stands = None; free = None; took = 0; since = None }
 
--- how long attempts stood, where they do no more
+-- how long attempts stood, after they ended. An attempt stands at the instance while that is promised to its
+-- node
 abbrev pub took_by : Option ℕ → ℕ → ℕ → ℕ
 took_by None now took = took
 took_by (Some stands) now took = now - stands
@@ -127,7 +129,7 @@ abbrev pub stood_by : Option ℕ → ℕ → Bool
 stood_by None q = false
 stood_by (Some p) q = nat_eq p q
 
--- the first unknown instance is promised to a node, or to none: those of another one stand no more
+-- the first unknown instance is promised to a node, or to none: the attempts of another node end
 abbrev pub noted_tries : Yielding → ℕ → Option ℕ → Yielding
 noted_tries y now None = record (ended y now) { tries = None; free = Some (unwrap_or y.free now) }
 noted_tries y now (Some q) =
@@ -141,7 +143,7 @@ noted_tries y now (Some q) =
       free = None;
     }
 
--- one that tried comes before this server, after the one that tried last
+-- another server that tried comes before this one, after the one that tried last
 pub record IsBehind (y : Yielding) (me : ℕ) : Type 0 where
   pub last : ℕ
   pub node : ℕ
@@ -150,28 +152,28 @@ pub record IsBehind (y : Yielding) (me : ℕ) : Type 0 where
   pub tried : has_node y.tried node ≡ true
   pub before : places_behind last node < places_behind last me
 
--- another one's attempt stands at the first unknown instance, or it is another one's turn
+-- another server's attempt stands at the first unknown instance, or it is another one's turn
 abbrev pub Waits : Yielding → ℕ → Type 0
 Waits y me = ((q : ℕ) × (y.tries ≡ Some q) × (q ≢ me)) ⊎ IsBehind y me
 
--- none has stood there for longer than those of the last node did, and a millisecond more
+-- no attempt has stood there for longer than those of the last node did, and a millisecond more
 abbrev pub IsSoon : Yielding → ℕ → Type 0
 IsSoon y now = (free : ℕ) × (y.free ≡ Some free) × (now - free ≤ y.took + 1)
 
--- a stretch of so many milliseconds may go on: the bound on it has not passed, nor six times as long as the
--- last attempts stood, and a millisecond more
+-- The server may yield on after millis: its bound has not passed, nor six times as long as the last attempts
+-- stood, and a millisecond more
 abbrev pub MayGoOn : Yielding → Times → ℕ → Type 0
 MayGoOn y times millis = (millis < times.yielding) × (millis < 6 * (y.took + 1))
 
--- so it waits: as long in a stretch as that may go on, and for an attempt that begins hardly longer than the
--- last ones stood
+-- The server yields while it waits, but in a stretch no longer than MayGoOn permits. For an attempt that has
+-- not begun it yields hardly longer than the last attempts stood
 abbrev pub Yields : Yielding → Times → ℕ → ℕ → Type 0
 Yields y times now me =
     Waits y me
     × MayGoOn y times (now - unwrap_or y.since now)
     × ((y.tries ≢ None) ⊎ IsSoon y now)
 
--- where it waited in vain, nobody's turn is before its own until one tries again
+-- if it waited in vain, nobody's turn is before its own until another one tries again
 abbrev pub yielding_after : Yielding → ℕ → Bool → Bool → Yielding
 yielding_after y now waits true = record y { since = Some (unwrap_or y.since now) }
 yielding_after y now waits false = record y { tried = if waits then no_nodes else y.tried; since = None }
@@ -182,8 +184,8 @@ yielding_after y now waits false = record y { tried = if waits then no_nodes els
 abbrev pub Rests : Resting → Type 0
 Rests r = (r.came ≡ false) × (r.served ≡ false) × (r.stirred ≡ false)
 
--- a response, or a message that is no question, wakes a server; what else came does not count as an empty
--- step
+-- a response, or a message that is no question, wakes a server; a step in which only other things came does
+-- not count as empty
 abbrev pub empty_after : Resting → ℕ
 empty_after r =
     if r.served || r.stirred then 0
@@ -194,7 +196,7 @@ resting_of p came served = record { came = came; served = served; stirred = p.st
 
 -- ---- a pace, and what is due
 
--- after a batch that delivered so many messages of attempts, and so many that are no questions
+-- after a batch that delivered this many messages of attempts, and this many messages that are no questions
 abbrev pub heard : Pace → ℕ → ℕ → Pace
 heard p attempts stirs = record p {
   last = record p.last { tried = p.last.tried || nat_lt 0 attempts };
@@ -214,8 +216,8 @@ IsUntried s = (values : List Value) → IsKnownPrefix s values → IsPromise s.e
 abbrev pub IsVotedBy : Node → ℕ → ℕ → Type 0
 IsVotedBy s i p = (vote : Vote) × (last_vote i s.entries ≡ Some vote) × (vote.ballot.node ≡ p)
 
--- it has something to decide, where it knows so many values: one of its own waits to be proposed, or its
--- record had a vote further on as it began
+-- it has something to decide: a value of its own waits to be proposed, or its record had a vote after the
+-- known values as it began
 abbrev pub HasStake : Node → ℕ → ℕ → Type 0
 HasStake s known recorded = (s.pending ≢ []) ⊎ (known < recorded)
 
@@ -223,20 +225,20 @@ HasStake s known recorded = (s.pending ≢ []) ⊎ (known < recorded)
 abbrev pub IsIdle : Node → Type 0
 IsIdle s = (i : ℕ) → s.attempts i ≡ None
 
--- where so many values are known: it voted for the last of them at an own ballot, its record had a vote
--- further on as it began, and it has no attempt open
+-- it voted for the last of the known values at an own ballot, its record had a vote further on as it began,
+-- and it has no attempt open
 pub record Resumes (s : Node) (me known recorded : ℕ) : Type 0 where
   pub range : IsInstance known
   pub own : IsVotedBy s known me
   pub more : known < recorded
   pub idle : IsIdle s
 
--- where so many values are known: the value of the first unknown instance is on record as learned
+-- the value of the first unknown instance is on record as learned
 abbrev pub HasKept : Node → ℕ → Type 0
 HasKept s known = IsInstance (suc known) × IsRemembered s (suc known)
 
--- what node p shows: how many values it knows without a gap, whether it wants a tick, whether it has a stake,
--- whether it decides again what is on its record, and whether it kept the value after those that it knows
+-- What node p shows: how many values it knows without a gap; whether it wants a tick and has a stake; whether
+-- it decides again what is on its record; whether it kept the value after those that it knows
 pub record IsSeen (s : Node) (p recorded : ℕ) (drained : Bool) (seen : Seen) : Type 0 where
   pub known : (values : List Value) × IsKnownPrefix s values × (seen.known ≡ length values)
   pub reached : seen.reached ≡ s.reached
@@ -246,8 +248,8 @@ pub record IsSeen (s : Node) (p recorded : ℕ) (drained : Bool) (seen : Seen) :
   pub resumes : IsTrue seen.resumes ↔ Resumes s p seen.known recorded
   pub kept : IsTrue seen.kept ↔ HasKept s seen.known
 
--- a server of n begins quiet, over a record whose furthest vote is there; it never asked, and no tick is
--- wanted
+-- a server of n begins quiet; recorded is the instance of the furthest vote on its record. It never asked,
+-- and no tick is wanted
 abbrev pub first_pace : Times → ℕ → ℕ → ℕ → Pace
 first_pace times n node recorded = record {
   times = times;
@@ -267,18 +269,17 @@ first_pace times n node recorded = record {
   tells = false;
 }
 
--- more than half of the nodes promised or refused something since the last tick, itself included
+-- more than half of the nodes, this one counted, promised or refused something since the last tick
 abbrev pub IsAnswered : Pace → Type 0
 IsAnswered p = p.cluster / 2 + 1 ≤ count_of p.answered
 
--- a tick that was due is one of those after which more patience is had; one for a value that is fresh, or at
--- once, is not
+-- a tick that was due counts towards a longer patience; one for a fresh value, or at once, does not
 abbrev pub ticking_after : Times → Ticking → ℕ → Due → LastCall → Ticking
 ticking_after times t now due TickOrAsk =
     if due.fresh || not due.tick then begun t else ticked t times now due.answered
 ticking_after times t now due last = t
 
--- who answered is counted anew from a tick on
+-- a tick begins a new count of those that answered
 abbrev pub answers_after : List Bool → LastCall → List Bool
 answers_after answered TickOrAsk = no_nodes
 answers_after answered last = answered
@@ -287,17 +288,17 @@ answers_after answered last = answered
 abbrev pub again_after : LastQuestion → ℕ → ℕ
 again_after q known = if nat_eq known q.known then min (q.again + 1) (2 ^ 32 - 1) else 0
 
--- what came since is counted anew from a question on
+-- a question begins a new count of what came since
 abbrev pub question_after : LastQuestion → ℕ → ℕ → LastCall → LastQuestion
 question_after q now known Ask =
     record { at = Some now; known = known; tried = false; again = again_after q known }
 question_after q now known last = q
 
--- it yields where the first unknown instance is promised so
+-- it yields if the first unknown instance is promised to tries
 abbrev pub IsYielding : Pace → ℕ → Option ℕ → Type 0
 IsYielding p now tries = Yields (noted_tries p.yielding now tries) p.times now p.me
 
--- as that was noticed
+-- the pace after the server noticed what is due
 abbrev pub noticed : Pace → ℕ → Seen → Option ℕ → Due → Pace
 noticed p now seen tries due = record p {
   ticking = noted p.ticking p.times now seen p.stirred;
@@ -305,7 +306,7 @@ noticed p now seen tries due = record p {
   yielding = yielding_after (noted_tries p.yielding now tries) now due.waits due.yields;
 }
 
--- once that is called, where so many values are known
+-- the pace after that call, with this many values known
 abbrev pub called : Pace → ℕ → ℕ → Due → LastCall → Pace
 called p now known due last = record p {
   ticking = ticking_after p.times p.ticking now due last;
@@ -320,7 +321,7 @@ called p now known due last = record p {
 abbrev pub pace_after : Pace → ℕ → Seen → Option ℕ → Due → LastCall → Pace
 pace_after p now seen tries due last = called (noticed p now seen tries due) now seen.known due last
 
--- as a batch begins
+-- what is due as a batch begins
 pub record IsDue (p : Pace) (now : ℕ) (seen : Seen) (tries : Option ℕ) (block telling : Option (ℕ × ℕ))
     (due : Due) : Type 0 where
   pub fresh : IsTrue due.fresh ↔ (IsFresh p.ticking seen.wanted p.stirred × (due.yields ≡ false))
@@ -337,7 +338,7 @@ pub record IsDue (p : Pace) (now : ℕ) (seen : Seen) (tries : Option ℕ) (bloc
 
 -- ---- what is called, and heard
 
--- as it tells others
+-- this server as a teller
 abbrev pub teller_of : Pace → ℕ → Seen → Teller
 teller_of p now seen = record {
   times = p.times;
@@ -348,14 +349,14 @@ teller_of p now seen = record {
   calm = not p.last.tried;
 }
 
--- nobody is told in the step after a telling, nor where something goes first; else the next one may be
+-- nobody is told in the step after a telling, nor if something goes first; else the next telling may be due
 abbrev pub IsTelling : Pace → ℕ → Node → ℕ → Seen → Bool → Option (ℕ × ℕ) → Questions → Type 0
 IsTelling p n s now seen waits telling new =
     ((waits ≡ true) × (telling ≡ None) × (new ≡ p.questions))
     ⊎ ((waits ≡ false) × TellsNext p.questions (teller_of p now seen) n s telling new)
 
--- This is called after the turns of a batch that begins now, by a server in a group of n, over this node;
--- and that is its pace then
+-- a server in a group of n makes the call last after the turns of a batch that begins now, over node s; new
+-- is its pace then
 pub record CallsDue (old : Pace) (n : ℕ) (s : Node) (now : ℕ) (drained : Bool) (last : LastCall)
     (new : Pace) : Type 0 where
   pub seen : Seen
@@ -371,7 +372,7 @@ pub record CallsDue (old : Pace) (n : ℕ) (s : Node) (now : ℕ) (drained : Boo
   pub is_called : last ≡ call_behind due
   pub after : new ≡ record (pace_after old now seen tries due last) { questions = new.questions }
 
--- and this once it heard what the batch delivered
+-- its pace after it heard what the batch delivered
 pub record HearsBatch (old : Pace) (delivered : Delivered) (new : Pace) : Type 0 where
   pub asked : AreAsked old.questions.asked delivered.questions new.questions.asked
   pub came : AreUnited delivered.heard old.questions.present.came new.questions.present.came

@@ -11,7 +11,7 @@ use Rattle.server_times.specs.declared.times.Times.{Times}
 abbrev pub nobody_heard : Present
 nobody_heard = record { came = no_nodes; at = replicate 9 None }
 
--- those that came were heard now, and the others as before
+-- nodes of which something came were heard now, the others when they were before
 abbrev pub AreHeard : List Bool → List (Option ℕ) → ℕ → List (Option ℕ) → Type 0
 AreHeard came at now new = (i : ℕ) → i < 9
     → get_or new i None ≡ (if get_or came i false then Some now else get_or at i None)
@@ -20,19 +20,19 @@ AreHeard came at now new = (i : ℕ) → i < 9
 abbrev pub is_there : List (Option ℕ) → Times → ℕ → ℕ → Bool
 is_there at times now q = not (passed (get_or at (q - 1) None) now times.silent)
 
--- it is there, and after node p it comes before this one
+-- node q is there, and comes after node p before this one does
 abbrev pub comes_before : List (Option ℕ) → Times → ℕ → ℕ → ℕ → ℕ → Bool
 comes_before at times now p me q = is_there at times now q && nat_lt (places_behind p q) (places_behind p me)
 
--- how many of the first so many nodes do
+-- how many of the nodes from 1 to a number come before this one
 abbrev pub before : List (Option ℕ) → Times → ℕ → ℕ → ℕ → ℕ → ℕ
 before at times now p me zero = 0
 before at times now p me (suc k) =
     if comes_before at times now p me (suc k) then suc
     (before at times now p me k) else before at times now p me k
 
--- It is this node's turn to tell node p, after so many questions in a row that brought that no further. A
--- node always tells itself. Of the others the first that is there has its turn at once, and each question
--- brings the next one in
+-- It is this node's turn to tell node p, whose last `repeats` questions in a row came no further. A node
+-- always tells itself. Of the others the first that is there has its turn at once, and each question brings
+-- in the next one
 abbrev pub has_turn : List (Option ℕ) → Times → ℕ → ℕ → ℕ → ℕ → Bool
 has_turn at times now p me repeats = nat_eq p me || nat_le (before at times now p me 9) repeats

@@ -1,4 +1,4 @@
--- When a server asks, and when it tells whom. Times are milliseconds since it began.
+-- When a server asks, when it tells, and whom. Times are milliseconds since it began.
 use Rattle.std.specs.Prelude.{◌≡◌, ◌≢◌, ◌⊎◌, ℕ, ◌+◌, ◌-◌, ◌^◌, ◌<◌, ◌≤◌, min, nat_eq, nat_le, nat_lt, List}
 use Rattle.std.specs.Prelude.{replicate, get_or, set, Bool, true, false, not, ◌&&◌, ◌||◌, if◌then◌else◌}
 use Rattle.std.specs.Prelude.{Option, Some, None, IsTrue, ◌↔◌}
@@ -36,17 +36,18 @@ AsksAgain a = (a.learned ≡ 0) × (a.lacks ≡ true) × (a.waited ≡ true)
 abbrev pub Asks : Asking → Type 0
 Asks a = (a.passed ≡ true) ⊎ ((a.drained ≡ true) × (GoesFurther a ⊎ AsksAgain a))
 
--- its record has the value of the first unknown instance; or messages were of instances that nobody tries
+-- its record has the value of the first unknown instance; or messages were about instances that nobody tries
 -- before that one is known
 abbrev pub is_behind : Seen → Bool
 is_behind seen = seen.kept || nat_le (min (seen.known + MAX_TOLD) (2 ^ 32 - 1)) seen.reached
 
--- it is behind; or it knows nothing yet; or messages were of instances that it does not know, and nobody
--- tries a value
+-- it is behind; or it knows nothing yet; or nobody tries a value, and messages were about instances that it
+-- does not know
 abbrev pub lacks : Seen → Bool → Bool
 lacks seen calm = is_behind seen || (nat_eq seen.known 0 || (calm && nat_lt seen.known seen.reached))
 
--- what stands since the last question, where it is to hear of more of what is on its record, or not
+-- what decides whether it asks, since the last question; more says whether the server is yet to hear more of
+-- what is on its record
 abbrev pub asking_of : LastQuestion → Times → ℕ → Seen → ℕ → Bool → Asking
 asking_of last times now seen empty more = record {
   learned = seen.known - last.known;
@@ -60,13 +61,13 @@ asking_of last times now seen empty more = record {
 
 -- ---- tellings
 
--- Something is to be told: all instances of a telling; or, as it asked, what is known or on record as
--- learned; or what was voted for from the instance on that it asked for, if nobody tries a value and there
--- may be such votes
+-- There is news if all instances of a telling can be told; or if the node asked, and what it asked for is
+-- known or on record as learned; or if it asked, nobody tries a value, and there may be votes from that
+-- instance on
 abbrev pub HasNews : Telling → Type 0
 HasNews t = (t.full ≡ true) ⊎ ((t.asked ≡ true) × ((t.known ≡ true) ⊎ ((t.calm ≡ true) × (t.votes ≡ true))))
 
--- values that others may tell too are told in turn; votes are told by each
+-- values that others may tell too are told in turn; each node tells its votes
 abbrev pub Tells : Telling → Type 0
 Tells t = HasNews t × ((t.known ≡ false) ⊎ (t.turn ≡ true))
 
@@ -74,12 +75,12 @@ Tells t = HasNews t × ((t.known ≡ false) ⊎ (t.turn ≡ true))
 abbrev pub IsFull : Node → ℕ → Type 0
 IsFull s first = let final = first + (MAX_TOLD - 1) in (final ≤ MAX_INSTANCE) × IsTellable s final
 
--- none was heard
+-- no question was heard
 abbrev pub no_questions : ℕ → Questions
 no_questions me =
     record { asked = replicate 9 None; courses = replicate 9 None; present = nobody_heard; last = me }
 
--- of a node its newest question: one that was heard, or else the one before
+-- a node's newest question: one that was just heard, or else the one before
 abbrev pub newer : Option ℕ → Option ℕ → Option ℕ
 newer (Some i) before = Some i
 newer None before = before
@@ -93,7 +94,7 @@ abbrev pub AreOnCourse : Times → ℕ → List (Option ℕ) → List (Option Co
 AreOnCourse times now asked old new = (i : ℕ) → i < 9
     → get_or new i None ≡ course_after times now (get_or asked i None) (get_or old i None)
 
--- none waits then, and who was heard was so now
+-- no question waits then, and each node of which something came was heard now
 pub record TakesIn (old : Questions) (times : Times) (now : ℕ) (new : Questions) : Type 0 where
   pub none : new.asked ≡ replicate 9 None
   pub courses : AreOnCourse times now old.asked old.courses new.courses
@@ -101,17 +102,17 @@ pub record TakesIn (old : Questions) (times : Times) (now : ℕ) (new : Question
   pub noted : new.present.came ≡ no_nodes
   pub last : new.last ≡ old.last
 
--- so many values are known: of those from instance i on that a telling covers, none past the last of them are
--- told
+-- how many of count instances, from i on, a telling covers: those up to the last of the known values, or all
+-- if i is after them
 abbrev pub told_count : ℕ → ℕ → ℕ → ℕ
 told_count known i count = if nat_le i known then min count (known - i + 1) else count
 
--- there may be votes to tell: its node asked for the next instance or for a later one, and the furthest
+-- there may be votes to tell: the node asked for the next instance or for a later one, and the furthest
 -- instance of which anything was heard is no earlier
 abbrev pub may_have_votes : Course → ℕ → Bool
 may_have_votes course furthest = nat_le course.next course.first && nat_le course.next furthest
 
--- what stands of node p, on that course
+-- what decides whether node p is told, on that course
 pub record StandsSo (q : Questions) (teller : Teller) (s : Node) (p : ℕ) (course : Course)
     (telling : Telling) : Type 0 where
   pub full : IsTrue telling.full ↔ IsFull s course.next
@@ -121,7 +122,7 @@ pub record StandsSo (q : Questions) (teller : Teller) (s : Node) (p : ℕ) (cour
   pub calm : telling.calm ≡ teller.calm
   pub turn : telling.turn ≡ has_turn q.present.at teller.times teller.at p teller.me course.repeats
 
--- node p is told next, on that course: that is due, and may set out
+-- node p is told next, on that course: the telling is due, and may set out
 pub record IsDueTo (q : Questions) (teller : Teller) (s : Node) (p : ℕ) (course : Course) : Type 0 where
   pub is_course : get_or q.courses (p - 1) None ≡ Some course
   pub range : IsInstance course.next
@@ -130,7 +131,7 @@ pub record IsDueTo (q : Questions) (teller : Teller) (s : Node) (p : ℕ) (cours
   pub due : Tells telling
   pub may_set_out : is_open course (covered_from s course.next) ≡ true
 
--- in a group of n, so it is told
+-- the next telling to node p, in a group of n
 pub record IsNextTo (q : Questions) (teller : Teller) (n : ℕ) (s : Node) (p : ℕ) (next : Next) : Type 0 where
   pub to : next.to ≡ p
   pub is_node : IsNode n p
@@ -138,7 +139,7 @@ pub record IsNextTo (q : Questions) (teller : Teller) (n : ℕ) (s : Node) (p : 
   pub first : next.first ≡ next.course.next
   pub count : next.count ≡ told_count teller.known next.course.next (covered_from s next.course.next)
 
--- it comes first after the node that was told last
+-- of the tellings that are due, this one comes first after the node that was told last
 abbrev pub IsFirstDue : Questions → Teller → ℕ → Node → Next → Type 0
 IsFirstDue q teller n s next =
     (p : ℕ) × IsNextTo q teller n s p next
@@ -148,12 +149,12 @@ IsFirstDue q teller n s next =
 abbrev pub NobodyIsDue : Questions → Teller → ℕ → Node → Type 0
 NobodyIsDue q teller n s = (p : ℕ) (c : Course) → IsNode n p → ¬ IsDueTo q teller s p c
 
--- from then on it is told after that
+-- the next telling to this node begins after this one
 abbrev pub told_so : Questions → Next → Questions
 told_so q next =
     record q { courses = set q.courses (next.to - 1) (Some (told_on next.course next.count)); last = next.to }
 
--- What was heard is taken in, and then the first node to which something is due is told, if there is one
+-- What was heard is taken in. Then the first node to which a telling is due is told, if there is one
 pub record TellsNext (old : Questions) (teller : Teller) (n : ℕ) (s : Node) (telling : Option (ℕ × ℕ))
     (new : Questions) : Type 0 where
   pub mid : Questions

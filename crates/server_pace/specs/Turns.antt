@@ -10,15 +10,15 @@ abbrev pub telling_or : Option (ℕ × ℕ) → LastCall → LastCall
 telling_or None last = last
 telling_or (Some x) last = Tell x.0 x.1
 
--- and what is put on record before all but a fresh value and a question: its answer comes while the disk
--- writes
+-- putting on record goes before everything except a fresh value and a question: the answer comes while the
+-- disk writes
 abbrev pub keeping_or : Option (ℕ × ℕ) → Bool → LastCall → LastCall
 keeping_or None question last = last
 keeping_or (Some x) true last = Ask
 keeping_or (Some x) false last = Keep x.0 x.1
 
--- the first that applies: a tick for a value that is fresh, what is put on record, a tick, a question, a
--- telling, nothing where it yields; else widenings
+-- the first that applies: a tick for a fresh value, putting on record, a tick, a question, a telling, nothing
+-- if it yields; else widenings
 abbrev pub call_behind : Due → LastCall
 call_behind due =
     if due.fresh then TickOrAsk

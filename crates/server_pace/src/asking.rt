@@ -3,17 +3,17 @@
 ghost use Rattle.std.specs.Prelude.{◌↔◌, IsTrue};
 ghost use Rattle.server_pace.specs.Questioning.{Asks, AsksAgain, GoesFurther, HasNews, Tells};
 
-/// What stands where a server may ask.
+/// What decides whether a server asks.
 #[derive(Clone, Copy, Debug, PartialEq, Eq, Drop)]
 pub struct Asking {
-    /// So many values became known since it asked last.
+    /// How many values became known since it asked last.
     pub learned: u32,
     /// Nothing waits to be received.
     pub drained: bool,
-    /// Nobody was seen to try a value since it asked last, or what it tried itself is known, and more is on
-    /// its record.
+    /// Since it asked last, nobody was seen to try a value; or what it tried itself is known, and its record
+    /// has more.
     pub calm: bool,
-    /// Its record has the value of the first unknown instance, or messages were of instances that nobody
+    /// Its record has the value of the first unknown instance, or messages were about instances that nobody
     /// tries before that one is known.
     pub behind: bool,
     /// Others know what it does not.
@@ -25,9 +25,9 @@ pub struct Asking {
 }
 
 impl Asking {
-    /// A question that brought something is followed by the next once all of that came, where nobody tries a
-    /// value or the server is behind. One that brought nothing is asked again in a while, where something is
-    /// missing. Any other comes only after its time.
+    /// After a question that brought something the next one follows as soon as all of that came, if nobody
+    /// tries a value or the server is behind. If a question brought nothing and something is missing, the
+    /// server soon asks again. Any other question waits for its time.
     pub fn is_due(self) -> bool
         ensures { IsTrue result ↔ Asks self }
     {
@@ -47,17 +47,17 @@ impl Asking {
     }
 }
 
-/// What stands of a node that asked.
+/// What decides whether a node that asked is told something.
 #[derive(Clone, Copy, Debug, PartialEq, Eq, Drop)]
 pub struct Telling {
-    /// There is something to tell of the last of the instances.
+    /// There is something to tell about the last of the instances.
     pub full: bool,
     /// It was told nothing since its last question.
     pub asked: bool,
     /// The value of the first of the instances is known, or on record as learned.
     pub known: bool,
-    /// It is the one that its node asked for, and messages were of it or of a later one, or its record had a
-    /// vote so far on as it began. Else there are no votes to tell.
+    /// There may be votes to tell. The node asked for the first of the instances; and messages were about it
+    /// or a later one, or the teller's record had a vote as far on when it began.
     pub votes: bool,
     /// Nobody was seen to try a value since the teller asked last.
     pub calm: bool,
@@ -66,15 +66,16 @@ pub struct Telling {
 }
 
 impl Telling {
-    /// Whether there is news: of all the instances; or, for a question, of values that are known or on record
-    /// as learned, and of votes if nobody tries a value.
+    /// Whether there is news: about all the instances; or, for a question, values that are known or on record
+    /// as learned, or votes if nobody tries a value.
     fn has_news(self) -> bool
         ensures { IsTrue result ↔ HasNews self }
     {
         self.full || (self.asked && (self.known || (self.calm && self.votes)))
     }
 
-    /// Votes are told by each node, as a majority of them counts, and values by the one whose turn it is.
+    /// Each node tells its votes, since a majority of them counts. Only the node whose turn it is tells
+    /// values.
     pub fn is_due(self) -> bool
         ensures { IsTrue result ↔ Tells self }
     {

@@ -1,4 +1,4 @@
-//! How far a node is told that asked.
+//! How far a node that asked is told.
 
 ghost use Rattle.std.specs.Prelude.{◌≡◌};
 ghost use Rattle.server_pace.specs.Courses.{asked_again, first_course, flight_by, flight_of, heard_on};
@@ -10,32 +10,32 @@ use site_ids::Instance;
 
 /// What another node asked for last, and how far it was told since.
 ///
-/// It is told stretch after stretch. How many may be on their way grows while it asks further on, and shrinks
-/// when it asks again for what it was told: so the line is kept full, and no fuller.
+/// It is told stretch after stretch. The number that may be on their way grows while it asks further on, and
+/// shrinks when it asks again for what it was told. So the line is kept full, but no fuller.
 #[derive(Clone, Copy, Debug, PartialEq, Eq, Drop)]
 pub struct Course {
     /// The number of the instance that it asked for last.
     pub first: u32,
-    /// From that instance on it is told next.
+    /// The instance from which it is told next.
     pub next: u32,
-    /// So many stretches from the first instance on may be on their way.
+    /// How many stretches from the first instance on may be on their way.
     pub budget: u32,
-    /// So many questions in a row came no further on than the one before.
+    /// How many questions in a row came no further on than the one before.
     pub repeats: u32,
     /// When its last question was heard, in milliseconds since the server began.
     pub at: u64,
     /// Since when it is told from the first instance on: it asked further on then, or was told again.
     pub since: u64,
-    /// It was told again then, or for the first time.
+    /// It was told again at that time, or for the first time.
     pub back: bool,
-    /// How many milliseconds went by the last time from there until it asked further on.
+    /// How many milliseconds it took the last time, from then until it asked further on.
     pub took: u64,
     /// It was told nothing since its last question.
     pub asked: bool,
 }
 
 impl Course {
-    /// That of a node which asks for this instance, and of which nothing was heard before.
+    /// The course of a node which asks for this instance, and of which nothing was heard before.
     pub fn new(times: Times, now: u64, instance: Instance) -> Course
         ensures { result ≡ first_course times now instance }
     {
@@ -52,7 +52,7 @@ impl Course {
         }
     }
 
-    /// By how many stretches an instance is further on than the last that was asked for.
+    /// By how many stretches an instance is further on than the last one that was asked for.
     fn stretches_to(self, instance: u32) -> u32
         ensures { result ≡ stretches_to self instance }
     {
@@ -71,7 +71,7 @@ impl Course {
         }
     }
 
-    /// For how many milliseconds what it is told may be on its way.
+    /// For how many milliseconds a telling to it may be on its way.
     fn flight(self) -> u64
         ensures { result ≡ flight_of self }
     {
@@ -100,7 +100,7 @@ impl Course {
         }
     }
 
-    /// It asked again, for what an answer to its last question does not bring it past.
+    /// It asked again, for an instance that an answer to its last question does not pass.
     fn asked_again(self, times: Times, now: u64, instance: u32) -> Course
         ensures { result ≡ asked_again times now instance self }
     {
@@ -124,7 +124,7 @@ impl Course {
         }
     }
 
-    /// What stands where it asks for this instance.
+    /// The course after it asks for this instance.
     pub fn heard(self, times: Times, now: u64, instance: Instance) -> Course
         ensures { result ≡ heard_on times now instance self }
     {
@@ -141,7 +141,7 @@ impl Course {
         self
     }
 
-    /// Whether a telling of so many instances may set out now.
+    /// Whether a telling of `count` instances may set out now.
     pub fn is_open(self, count: u32) -> bool
         ensures { result ≡ is_open self count }
     {
@@ -149,7 +149,7 @@ impl Course {
         ahead <= self.budget.saturating_sub(1).saturating_mul(count)
     }
 
-    /// It is told of so many instances.
+    /// It is told of `count` instances.
     pub fn told(self, count: u32) -> Course
         ensures { result ≡ told_on self count }
     {

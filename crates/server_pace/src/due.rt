@@ -6,34 +6,34 @@ ghost use Rattle.server_pace.specs.Turns.{call_behind, goes_first};
 use site_drive::LastCall;
 use site_ids::{Instance, NodeId};
 
-/// What stands as a batch begins.
+/// What is due as a batch begins.
 #[derive(Clone, Copy, Debug, PartialEq, Eq, Drop)]
 pub struct Due {
-    /// A value was just submitted, and it does not yield.
+    /// A value was just submitted, and this server does not yield.
     pub fresh: bool,
-    /// From which instance on, and how many, are put on record, where that is due.
+    /// The first instance to put on record, and how many, if that is due.
     pub block: Option<(Instance, u32)>,
-    /// Whom to tell, and from which instance on, where a telling is due.
+    /// Whom to tell, and from which instance on, if a telling is due.
     pub telling: Option<(NodeId, Instance)>,
     /// A question is due.
     pub question: bool,
     /// A tick is due.
     pub tick: bool,
-    /// A majority answered since the last one.
+    /// A majority answered since the last tick.
     pub answered: bool,
-    /// One is due at once, for the next of those instances that are on its record.
+    /// A tick is due at once, for the next of the instances that are on its record.
     pub goes_on: bool,
-    /// Another one's attempt stands at the first unknown instance, or it is another one's turn.
+    /// Another server's attempt stands at the first unknown instance, or it is another one's turn.
     pub waits: bool,
-    /// So it yields: its time to do so has not passed.
+    /// It waits, and so it yields: its time to do so has not passed.
     pub yields: bool,
 }
 
 impl Due {
-    /// A tick at once for a value that is fresh; else what is known is put on record, or a tick, a question
-    /// or a telling that is due; else nothing where it yields, and else widenings, so that the values that
-    /// came since the last batch share a prepare. A question that is due goes before what is put on record:
-    /// its answer comes while the disk writes, and what waited is due in the next batch.
+    /// The first that applies: a tick at once for a fresh value; what is known is put on record; a tick, a
+    /// question or a telling that is due; nothing if it yields; widenings, so that the values that came since
+    /// the last batch share a prepare. A question that is due goes before putting on record: its answer comes
+    /// while the disk writes, and what waited is due in the next batch.
     pub fn last_call(self) -> LastCall
         ensures { result ≡ call_behind self }
     {

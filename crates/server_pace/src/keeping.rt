@@ -1,7 +1,7 @@
 //! When a server puts on record what it learned.
 //!
-//! Each seal waits for the disk twice, so values wait for one another: who catches up over 100,000 values
-//! seals a hundred times for them.
+//! Each seal waits for the disk twice, so values wait for one another. A server that catches up over 100,000
+//! values seals a hundred times for them.
 
 ghost use Rattle.std.specs.Prelude.{◌≡◌, ◌↔◌, IsTrue, None};
 ghost use Rattle.server_pace.specs.Keeping.{kept_on, owed_at, IsKeepDue, IsNextBlock};
@@ -9,18 +9,18 @@ ghost use Rattle.server_pace.specs.Keeping.{kept_on, owed_at, IsKeepDue, IsNextB
 use server_times::Times;
 use site_ids::Instance;
 
-/// Of how many instances, from the first one on, what is known was put on record, and since when more is
+/// For how many instances, from the first one on, the known value was put on record, and since when more is
 /// known.
 #[derive(Clone, Copy, Debug, PartialEq, Eq, Drop)]
 pub struct Keeping {
-    /// So many instances were kept since the server began.
+    /// How many instances were kept since the server began.
     pub kept: u32,
-    /// Since when more values are known, in milliseconds since it began; never where none are.
+    /// Since when more values are known, in milliseconds since the server began; `None` if no more are.
     pub since: Option<u64>,
 }
 
 impl Keeping {
-    /// Nothing is known.
+    /// No value is known.
     pub fn new() -> Keeping
         ensures { result ≡ record { kept = 0; since = None } }
     {
@@ -30,7 +30,7 @@ impl Keeping {
         }
     }
 
-    /// What stands now that so many values are known.
+    /// What is kept and owed now that this many values are known.
     pub fn noted(self, now: u64, known: u32) -> Keeping
         ensures { result ≡ owed_at self now known }
     {
@@ -40,8 +40,7 @@ impl Keeping {
         }
     }
 
-    /// Whether values wait no longer: the oldest has waited for its time, or there are as many as a block
-    /// has.
+    /// Whether values wait no longer: the oldest has waited for its time, or there are enough for a block.
     pub fn is_due(self, times: Times, now: u64, known: u32) -> bool
         ensures { IsTrue result ↔ IsKeepDue self times now known }
     {
@@ -54,7 +53,7 @@ impl Keeping {
         }
     }
 
-    /// From which instance on, and how many, are put on record next: as many as are known, a block at most.
+    /// The first instance that is put on record next, and how many: all that are known, at most a block.
     pub fn next(self, times: Times, now: u64, known: u32) -> Option<(Instance, u32)>
         ensures { IsNextBlock self times now known result }
     {
@@ -68,7 +67,7 @@ impl Keeping {
         Some((first, count))
     }
 
-    /// So many more were.
+    /// `count` more instances were kept.
     pub fn passed(self, count: u32) -> Keeping
         ensures { result ≡ kept_on self count }
     {

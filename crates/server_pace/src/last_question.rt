@@ -12,26 +12,25 @@ use server_times::{Times, has_passed};
 /// When a server asked last, and what it knew then.
 #[derive(Clone, Copy, Debug, PartialEq, Eq, Drop)]
 pub struct LastQuestion {
-    /// In milliseconds since it began, unless it never asked.
+    /// In milliseconds since the server began; `None` if it never asked.
     pub at: Option<u64>,
-    /// So many values were known.
+    /// How many values were known.
     pub known: u32,
     /// Somebody was seen to try a value since.
     pub tried: bool,
-    /// So many questions in a row were for one instance, the first of them aside.
+    /// How many questions in a row were for one instance, not counting the first.
     pub again: u32,
 }
 
-/// Whether its record has the value of the first unknown instance, or messages were of instances that nobody
-/// tries before that one is known.
+/// Whether its record has the value of the first unknown instance, or messages were about instances that
+/// nobody tries before that one is known.
 fn is_behind(seen: Seen) -> bool
     ensures { result ≡ is_behind seen }
 {
     seen.kept || seen.known.saturating_add(MAX_TOLD) <= seen.reached
 }
 
-/// Whether others know what this server does not, as far as that shows; somebody tries a value, or not
-/// (`calm`).
+/// Whether others seem to know what this server does not. `calm` says that nobody tries a value.
 fn lacks(seen: Seen, calm: bool) -> bool
     ensures { result ≡ lacks seen calm }
 {
@@ -39,7 +38,7 @@ fn lacks(seen: Seen, calm: bool) -> bool
 }
 
 impl LastQuestion {
-    /// It never asked.
+    /// The server never asked.
     pub fn never() -> LastQuestion
         ensures { result ≡ record { at = None; known = 0; tried = false; again = 0 } }
     {
@@ -51,7 +50,7 @@ impl LastQuestion {
         }
     }
 
-    /// How many questions in a row are for one instance, where the next one comes and so many values are
+    /// How many questions in a row are for one instance, if the next one comes now and this many values are
     /// known.
     pub(crate) fn again_after(self, known: u32) -> u32
         ensures { result ≡ again_after self known }
@@ -63,8 +62,8 @@ impl LastQuestion {
         }
     }
 
-    /// What stands where it may ask again, after so many steps in which nothing came; and where it is to hear
-    /// of more of what is on its record, or not.
+    /// What decides whether it asks again, after `empty` steps in which nothing came. `more` says that it is
+    /// yet to hear more of what is on its record.
     pub fn asking(self, times: Times, now: u64, seen: Seen, empty: u32, more: bool) -> Asking
         ensures { result ≡ asking_of self times now seen empty more }
     {

@@ -1,5 +1,5 @@
-//! When a server tries again, asks, tells and rests, by a moment in milliseconds: data and pure functions,
-//! without a clock.
+//! When a server tries again, asks, tells and rests, given the moment in milliseconds. Data and pure
+//! functions, without a clock.
 #![tactic(auto)]
 
 mod asking;

@@ -1,4 +1,4 @@
-//! When a server tries again, when it asks and tells, and how long it rests: all of it numbers.
+//! When a server tries again, asks and tells, and how long it rests.
 
 ghost use Rattle.std.specs.Prelude.{◌≡◌, ◌↔◌, ◌⊎◌, ◌<◌, ◌||◌, ℕ, suc, Option, IsSome, IsTrue, IfSome, Some};
 ghost use Rattle.std.specs.Prelude.{None, true, false, if◌then◌else◌};
@@ -29,7 +29,7 @@ use site_disk::Disk;
 use site_drive::{Delivered, LastCall};
 use site_ids::{Cluster, Instance, NodeId, NodeSet};
 
-/// What was tried, asked, heard and told, by whom and when.
+/// What was tried, asked, heard and told: by whom and when.
 ///
 /// A step calls `due`, then `hear` after its batch, and then `rest`. Its moments are milliseconds since the
 /// server began, none of them less than the one before.
@@ -43,13 +43,13 @@ pub struct Pace {
     // those that promised or refused something since its last tick
     answered: NodeSet,
     last: LastQuestion,
-    // those of other nodes
+    // the questions of other nodes
     questions: Questions,
-    // what was put on record of what is known
+    // how much of what is known was put on record
     keeping: Keeping,
-    // whether messages that are no questions came since what is due was asked for
+    // whether messages that are no questions came since `due` was called
     stirred: bool,
-    // how many steps went by in which nothing came, questions aside
+    // how many steps went by in which nothing came except questions
     empty: u32,
     me: NodeId,
     // the furthest instance at which its record had a vote as it began
@@ -57,11 +57,11 @@ pub struct Pace {
     yielding: Yielding,
     // the last call was a telling
     told: bool,
-    // it was, or the one before it
+    // the last call was a telling, or the one before it
     tells: bool,
 }
 
-/// Whether it is a telling.
+/// Whether the call is a telling.
 fn is_telling(last: &LastCall) -> bool
     ensures { result ≡ is_telling last.now }
 {
@@ -69,8 +69,8 @@ fn is_telling(last: &LastCall) -> bool
 }
 
 impl Pace {
-    /// That of a server which begins, over a record whose furthest vote is at that instance, or 0: it is
-    /// quiet.
+    /// The pace of a server which begins: it is quiet. The furthest vote on its record is at instance
+    /// `recorded`; 0 if there is none.
     pub fn new(times: Times, cluster: Cluster, me: NodeId, recorded: u32) -> Pace
         ensures { result ≡ first_pace times cluster me recorded }
     {
@@ -93,7 +93,7 @@ impl Pace {
         }
     }
 
-    /// After a batch: what it delivered.
+    /// Takes in what a batch delivered.
     pub fn hear(&mut self, delivered: &Delivered)
         ensures { HearsBatch self.old delivered.now self.new }
     {
@@ -102,7 +102,7 @@ impl Pace {
         self.note(delivered.attempts(), delivered.stirs());
     }
 
-    /// So many messages of an attempt came, and so many that are no questions.
+    /// `attempts` messages of attempts came, and `stirs` messages that are no questions.
     fn note(&mut self, attempts: u32, stirs: u32)
         ensures { self.new ≡ heard self.old attempts stirs }
     {
@@ -110,9 +110,9 @@ impl Pace {
         self.stirred |= stirs != 0;
     }
 
-    /// What is called after the turns of the next batch, which begins now, where all that had come was taken
-    /// in by the last one, or not. What is called counts from now on. A value that was just submitted is
-    /// tried at once where nobody tries one and it is no other server's turn.
+    /// The call after the turns of the next batch, which begins now. `drained` says that the last batch took
+    /// in all that had come. The call counts from now on. A value that was just submitted is tried at once if
+    /// nobody tries one and it is no other server's turn.
     pub fn due<D: Disk>(&mut self, now: u64, node: &Node<D>, drained: bool) -> LastCall
         ensures fresh { (s : AbstractNode) → IsNodeOf node.now s → WantsTick s → IsUntried s
             → ¬ IsYielding self.old now None → self.old.ticking.since ≡ None → self.old.stirred ≡ false
@@ -129,14 +129,14 @@ impl Pace {
         self.call(now, seen.known, Due { telling, ..due })
     }
 
-    /// From which instance on, and how many, are put on record next, if any.
+    /// The first instance that is put on record next, and how many, if any.
     fn next_block(&self, now: u64, known: u32) -> Option<(Instance, u32)>
         ensures { IsNextBlock (owed_at self.now.keeping now known) self.now.times now known result }
     {
         self.keeping.noted(now, known).next(self.times, now, known)
     }
 
-    /// Whether nobody is told, where that is due: somebody was in the last step, or something goes before a
+    /// Whether a telling that is due waits: somebody was told in the last step, or something goes before a
     /// telling.
     fn tells_nobody(&self, due: &Due) -> bool
         ensures { result ≡ (self.now.told || goes_first due.now) }
@@ -144,7 +144,7 @@ impl Pace {
         self.told || due.goes_first()
     }
 
-    /// As it tells others.
+    /// This server as a teller.
     fn teller(&self, now: u64, seen: Seen) -> Teller
         ensures { result ≡ teller_of self.now now seen }
     {
@@ -158,7 +158,7 @@ impl Pace {
         }
     }
 
-    /// The next telling, unless it waits.
+    /// The next telling, unless tellings wait.
     fn next_telling<D: Disk>(
         &mut self,
         now: u64,
@@ -177,7 +177,7 @@ impl Pace {
         self.questions.next(&teller, node)
     }
 
-    /// Whether a value was just submitted that is tried at once: it does not yield to another server.
+    /// Whether a value was just submitted and is tried at once, since this server does not yield to another.
     fn is_fresh(&self, wanted: bool, yields: bool) -> bool
         ensures { IsTrue result ↔ (IsFresh self.now.ticking wanted self.now.stirred × (yields ≡ false)) }
     {
@@ -191,7 +191,7 @@ impl Pace {
         self.answered.len() >= usize::from(self.cluster.quorum())
     }
 
-    /// What is due but tellings, where so much is seen.
+    /// What is due except tellings, from what is seen.
     fn notice(
         &mut self,
         now: u64,
@@ -226,7 +226,7 @@ impl Pace {
         }
     }
 
-    /// What is called where that is due and so many values are known. It counts from now on.
+    /// The call that is due. It counts from now on.
     fn call(&mut self, now: u64, known: u32, due: Due) -> LastCall
         ensures called { result ≡ call_behind due }
         ensures after { self.new ≡ called self.old now known due result }
@@ -240,7 +240,7 @@ impl Pace {
         last
     }
 
-    /// What stands of ticks after one: for a value that is fresh, or at once, or as it was due.
+    /// The ticking after a tick: for a fresh value, or at once, or as it was due.
     fn ticked(&self, now: u64, due: &Due) -> Ticking
         ensures { result ≡ ticking_after self.now.times self.now.ticking now due.now TickOrAsk }
     {
@@ -250,7 +250,7 @@ impl Pace {
         self.ticking.ticked(self.times, now, due.answered)
     }
 
-    /// A question, a tick, or what is put on record counts from now on.
+    /// A question, a tick, or putting on record counts from now on.
     fn begin(&mut self, now: u64, known: u32, due: &Due, last: &LastCall)
         ensures { self.new ≡ record self.old {
           ticking = ticking_after self.old.times self.old.ticking now due.now last.now;
@@ -277,9 +277,9 @@ impl Pace {
         }
     }
 
-    /// How many microseconds are rested after a step: none while something came, and only a few while it
-    /// tells somebody something. It is told whether datagrams came or bytes of clients, whether a response was
-    /// written, and how many clients there are.
+    /// How many microseconds the server rests after a step: not at all if something came, and only a few if
+    /// it tells somebody something. Datagrams or bytes of clients came (`came`), or a response was written
+    /// (`served`).
     pub fn rest(&mut self, came: bool, served: bool, clients: usize) -> Option<u64>
         ensures rests { IsSome result ↔ (came ≡ false) × (served ≡ false) × (self.old.stirred ≡ false) }
         ensures long { IfSome result (λ micros. micros

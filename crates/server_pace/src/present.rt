@@ -1,4 +1,4 @@
-//! Which nodes are there, as they were heard not long ago.
+//! Which nodes are there: they were heard not long ago.
 
 ghost use Rattle.std.specs.Prelude.{◌≡◌, ◌≤◌, Some, nat_le, if◌then◌else◌};
 ghost use Rattle.site_ids.specs.NodeSets.{no_nodes, AreUnited};
@@ -9,10 +9,10 @@ use crate::places::places_behind;
 use server_times::{Times, has_passed};
 use site_ids::{NodeId, NodeSet};
 
-/// When each node was heard last: node p at the place p - 1, in milliseconds since this server began.
+/// When each node was heard last: node p at index p - 1, in milliseconds since this server began.
 #[derive(Clone, Copy, Debug, PartialEq, Eq, Drop)]
 pub struct Present {
-    /// Those that were heard since it was noted last.
+    /// The nodes that were heard since the last `note`.
     pub came: NodeSet,
     pub at: [Option<u64>; 9],
 }
@@ -23,7 +23,7 @@ fn moment_of(came: bool, at: Option<u64>, now: u64) -> Option<u64>
     if came { Some(now) } else { at }
 }
 
-/// The moments of nodes of which these came.
+/// When each node was heard last, if those of `came` were heard now.
 fn heard_at(came: [bool; 9], at: &[Option<u64>; 9], now: u64) -> [Option<u64>; 9]
     ensures { AreHeard came at.now now result }
 {
@@ -35,7 +35,7 @@ fn heard_at(came: [bool; 9], at: &[Option<u64>; 9], now: u64) -> [Option<u64>; 9
 }
 
 impl Present {
-    /// None was heard.
+    /// No node was heard.
     pub fn new() -> Present
         ensures { result ≡ nobody_heard }
     {
@@ -45,7 +45,7 @@ impl Present {
         }
     }
 
-    /// These were heard, too.
+    /// These nodes were heard, too.
     pub fn hear(&mut self, nodes: NodeSet)
         ensures united { AreUnited nodes self.old.came self.new.came }
         ensures same { self.new.at ≡ self.old.at }
@@ -53,7 +53,7 @@ impl Present {
         self.came = nodes.union(self.came);
     }
 
-    /// Those that were heard since it was noted last were heard now.
+    /// The nodes that were heard since the last `note` were heard now.
     pub fn note(&mut self, now: u64)
         ensures heard { AreHeard self.old.came self.old.at now self.new.at }
         ensures none { self.new.came ≡ no_nodes }
@@ -70,7 +70,7 @@ impl Present {
         !has_passed(self.at[usize::from(number) - 1], now, times.silent)
     }
 
-    /// Whether it is, and after that node comes before this one.
+    /// Whether the node of that number is there, and comes after `to` before this node does.
     fn comes_before(&self, times: Times, now: u64, to: NodeId, me: NodeId, number: u8) -> bool
         requires { (1 ≤ number) × (number ≤ 9) }
         ensures { result ≡ comes_before self.now.at times now to me number }
@@ -79,8 +79,7 @@ impl Present {
             && places_behind(to, number) < places_behind(to, me.number())
     }
 
-    /// Whether fewer of the others come before this node, to tell that one, than it asked in a row and came
-    /// no further, or as many.
+    /// Whether at most `repeats` other nodes come before this one to tell that node.
     fn comes_soon(&self, times: Times, now: u64, to: NodeId, me: NodeId, repeats: u32) -> bool
         ensures { result ≡ nat_le (before self.now.at times now to me 9) repeats }
     {
@@ -93,7 +92,7 @@ impl Present {
         before <= repeats
     }
 
-    /// Whether it is this node's turn to tell that one, which asked so often in a row and came no further. A
+    /// Whether it is this node's turn to tell that one, whose last `repeats` questions came no further. A
     /// node always tells itself what it has on record: that takes no datagram.
     pub fn has_turn(&self, times: Times, now: u64, to: NodeId, me: NodeId, repeats: u32) -> bool
         ensures { result ≡ has_turn self.now.at times now to me repeats }

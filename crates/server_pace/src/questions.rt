@@ -1,4 +1,4 @@
-//! Questions that were heard, and whom to tell what.
+//! Questions that were heard, and who is told what.
 
 ghost use Rattle.std.specs.Prelude.{◌≡◌, ◌↔◌, ◌≤◌, ◌-◌, ℕ, true, get_or, set, Some, None, IfSome, IfNone};
 ghost use Rattle.std.specs.Prelude.{IsTrue, replicate};
@@ -24,7 +24,7 @@ use site_disk::Disk;
 use site_drive::Delivered;
 use site_ids::{Cluster, Instance, NodeId};
 
-/// What each node asked for and how far it was told, node p at the place p - 1; and who was told last.
+/// What each node asked for and how far it was told, node p at index p - 1; and who was told last.
 #[derive(Clone, Copy, Drop)]
 pub struct Questions {
     asked: [Option<Instance>; 9],
@@ -40,15 +40,15 @@ pub(crate) struct Teller {
     /// The moment.
     pub at: u64,
     pub me: NodeId,
-    /// So many values are known.
+    /// How many values are known.
     pub known: u32,
-    /// The furthest instance that messages were of, or at which its record had a vote as it began.
+    /// The furthest instance that messages were about, or at which its record had a vote as it began.
     pub furthest: u32,
     /// Nobody was seen to try a value since it asked last.
     pub calm: bool,
 }
 
-/// What is told next: to whom, on which course, from which instance on, and of how many.
+/// What is told next: to whom, on which course, the first instance, and how many instances.
 #[derive(Clone, Copy, Drop)]
 struct Next {
     to: NodeId,
@@ -57,7 +57,7 @@ struct Next {
     count: u32,
 }
 
-/// Whether there is something to tell of the last instance of a telling.
+/// Whether there is something to tell about the last instance of a telling.
 fn is_full<D: Disk>(node: &Node<D>, first: Instance) -> bool
     ensures { (s : AbstractNode) → IsNodeOf node.now s → IsTrue result ↔ IsFull s first }
 {
@@ -67,8 +67,7 @@ fn is_full<D: Disk>(node: &Node<D>, first: Instance) -> bool
     }
 }
 
-/// Of how many instances from that one on is told, where so many values are known, and the telling covers so
-/// many.
+/// How many of `count` instances, from `first` on, a telling covers if `known` values are known.
 fn told_count(known: u32, first: u32, count: u32) -> u32
     ensures { result ≡ told_count known first count }
 {
@@ -94,7 +93,7 @@ fn none_asked() -> [Option<Instance>; 9]
     [None; 9]
 }
 
-/// Of each node its newest question, where these were heard.
+/// Each node's newest question, after these were heard.
 fn newer_each(asked: &[Option<Instance>; 9], heard: &[Option<Instance>; 9]) -> [Option<Instance>; 9]
     ensures { AreAsked asked.now heard.now result }
 {
@@ -105,7 +104,7 @@ fn newer_each(asked: &[Option<Instance>; 9], heard: &[Option<Instance>; 9]) -> [
     all
 }
 
-/// How far a node is told that asked so, or not.
+/// How far a node is told after it asked for `asked`, if it did.
 fn course_after(
     times: Times,
     now: u64,
@@ -123,7 +122,7 @@ fn course_after(
     }
 }
 
-/// How far each is told.
+/// How far each node is told.
 fn courses_after(
     times: Times,
     now: u64,
@@ -139,8 +138,8 @@ fn courses_after(
     all
 }
 
-/// Whether there may be votes to tell of a course's next instance: its node asked for it or for a later one,
-/// and the furthest instance of which anything was heard is no earlier.
+/// Whether there may be votes to tell about a course's next instance: its node asked for it or for a later
+/// one, and the furthest instance of which anything was heard is no earlier.
 fn may_have_votes(course: Course, furthest: u32) -> bool
     ensures { result ≡ may_have_votes course furthest }
 {
@@ -148,7 +147,7 @@ fn may_have_votes(course: Course, furthest: u32) -> bool
 }
 
 impl Questions {
-    /// None was heard, at this node.
+    /// No question was heard, at this node.
     pub(crate) fn new(me: NodeId) -> Questions
         ensures { result ≡ no_questions me }
     {
@@ -160,7 +159,8 @@ impl Questions {
         }
     }
 
-    /// Those that were delivered, each in the place of that node's last one; and who sent anything.
+    /// Takes in the questions that were delivered, each in the place of that node's last one, and who sent
+    /// anything.
     pub(crate) fn hear(&mut self, delivered: &Delivered)
         ensures asked { AreAsked self.old.asked delivered.now.questions self.new.asked }
         ensures came { AreUnited delivered.now.heard self.old.present.came self.new.present.came }
@@ -182,7 +182,7 @@ impl Questions {
         self.present.note(now);
     }
 
-    /// What stands of a node that asked, on that course, from its next instance on.
+    /// What decides whether a node that asked is told something, on that course, from its next instance on.
     fn telling_on<D: Disk>(
         &self,
         teller: &Teller,
@@ -206,7 +206,7 @@ impl Questions {
         }
     }
 
-    /// What is told to a node next, if that is due.
+    /// The next telling to a node, if that is due.
     fn next_to<D: Disk>(&self, teller: &Teller, node: &Node<D>, to: NodeId) -> Option<Next>
         requires { IsNode node.now.cluster to }
         ensures some { IfSome result (λ next. (s : AbstractNode) → IsNodeOf node.now s
@@ -231,7 +231,7 @@ impl Questions {
         })
     }
 
-    /// The same of the node of that number, if there is one.
+    /// The next telling to the node of that number, if there is such a node.
     fn next_at<D: Disk>(
         &self,
         teller: &Teller,
@@ -249,7 +249,7 @@ impl Questions {
         self.next_to(teller, node, to)
     }
 
-    /// The first of them, after the node that was told last.
+    /// The first telling that is due, after the node that was told last.
     fn first_due<D: Disk>(&self, teller: &Teller, node: &Node<D>) -> Option<Next>
         ensures some { IfSome result (λ next. (s : AbstractNode) → IsNodeOf node.now s
             → IsFirstDue self.now teller.now node.now.cluster s next) }
@@ -267,7 +267,7 @@ impl Questions {
         None
     }
 
-    /// It is told so.
+    /// That telling is made.
     fn tell(&mut self, next: &Next)
         ensures { self.new ≡ told_so self.old next.now }
     {
@@ -275,7 +275,7 @@ impl Questions {
         self.last = next.to;
     }
 
-    /// Whom a node tells next, and from which instance on, after what was heard is taken in.
+    /// Whom a node tells next, and from which instance on, after it took in what was heard.
     pub(crate) fn next<D: Disk>(
         &mut self,
         teller: &Teller,

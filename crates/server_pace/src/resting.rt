@@ -1,21 +1,21 @@
 //! When a server rests.
 //!
-//! Rests grow after 200 empty passes and 2,000: at 1.5 ms throughout quiet nodes cost 4.3 to 6.9% of a core,
-//! so 1.6 to 2.0.
+//! Rests grow after 200 and after 2,000 empty steps. With rests of 1.5 ms throughout, quiet nodes cost 4.3 to
+//! 6.9% of a core; with growing rests they cost 1.6 to 2.0%.
 
 ghost use Rattle.std.specs.Prelude.{◌≡◌, ◌↔◌, IsTrue, false};
 ghost use Rattle.server_pace.specs.Pacing.{empty_after};
 
-/// What a step came to, and how many empty ones lie before it.
+/// What came in a step, and how many empty ones went before it.
 #[derive(Clone, Copy, Debug, PartialEq, Eq, Drop)]
 pub struct Resting {
     /// Datagrams came, or bytes of clients.
     pub came: bool,
     /// A response was written.
     pub served: bool,
-    /// Messages came that were no questions.
+    /// Messages came that are no questions.
     pub stirred: bool,
-    /// So many steps went by in which nothing came, questions aside.
+    /// How many steps went by in which nothing came except questions.
     pub empty: u32,
 }
 
@@ -27,8 +27,8 @@ impl Resting {
         !self.came && !self.served && !self.stirred
     }
 
-    /// How many empty steps lie before the next one. Questions, and parts of requests, do not count, and wake
-    /// nobody up.
+    /// How many empty steps went before the next one. Questions, and parts of requests, do not count, and do
+    /// not wake a server.
     pub fn empty_after(self) -> u32
         ensures { result ≡ empty_after self }
     {

@@ -9,12 +9,12 @@ use node::Node;
 use site_disk::Disk;
 use site_ids::{Instance, NodeId};
 
-/// What stands as a batch begins.
+/// What is seen as a batch begins.
 #[derive(Clone, Copy, Debug, PartialEq, Eq, Drop)]
 pub struct Seen {
-    /// So many values are known.
+    /// How many values are known.
     pub known: u32,
-    /// The furthest instance that messages were of, questions and refusals aside; 0 before the first.
+    /// The furthest instance that messages were about, except questions and refusals; 0 before the first.
     pub reached: u32,
     /// A tick is wanted.
     pub wanted: bool,
@@ -23,14 +23,14 @@ pub struct Seen {
     /// It has something to decide: a value of its own waits to be proposed, or its record had a vote further
     /// on as it began.
     pub stake: bool,
-    /// It voted for the last of them at an own ballot, its record had a vote further on as it began, and it
-    /// has no attempt open.
+    /// It voted for the last of the known values at an own ballot, its record had a vote further on as it
+    /// began, and it has no attempt open.
     pub resumes: bool,
     /// The value of the first unknown instance is on its record as learned.
     pub kept: bool,
 }
 
-/// The node to whose ballot the first unknown instance is promised, if it is, where so many values are known.
+/// The node to whose ballot the first unknown instance is promised, if it is. `known` values are known.
 pub(crate) fn first_tried_by<D: Disk>(node: &Node<D>, known: u32) -> Option<NodeId>
     ensures { (s : AbstractNode) → IsNodeOf node.now s → IsTriedBy s (suc known) result }
 {
@@ -39,7 +39,7 @@ pub(crate) fn first_tried_by<D: Disk>(node: &Node<D>, known: u32) -> Option<Node
     Some(ballot.node())
 }
 
-/// Whether a node's last vote at the instance is at a ballot of that one.
+/// Whether a node's last vote at the instance is at a ballot of `by`.
 fn is_voted_by<D: Disk>(node: &Node<D>, instance: Instance, by: NodeId) -> bool
     ensures { (s : AbstractNode) → IsNodeOf node.now s → IsTrue result ↔ IsVotedBy s instance by }
 {
@@ -49,8 +49,8 @@ fn is_voted_by<D: Disk>(node: &Node<D>, instance: Instance, by: NodeId) -> bool
     }
 }
 
-/// Whether it has something to decide, where so many values are known, and the furthest vote of the record as
-/// it began is there.
+/// Whether it has something to decide. `recorded` is the instance of the furthest vote on its record as it
+/// began.
 fn has_stake<D: Disk>(node: &Node<D>, known: u32, recorded: u32) -> bool
     ensures { (s : AbstractNode) → IsNodeOf node.now s → IsTrue result ↔ HasStake s known recorded }
 {
@@ -64,8 +64,8 @@ fn is_idle<D: Disk>(node: &Node<D>) -> bool
     node.attempts() == 0
 }
 
-/// Whether it decides again what is on its record, where so many values are known, and the furthest vote of
-/// the record as it began is there.
+/// Whether it decides again what is on its record. `recorded` is the instance of the furthest vote on its
+/// record as it began.
 fn resumes<D: Disk>(node: &Node<D>, me: NodeId, known: u32, recorded: u32) -> bool
     ensures { (s : AbstractNode) → IsNodeOf node.now s → IsTrue result ↔ Resumes s me known recorded }
 {
@@ -75,7 +75,7 @@ fn resumes<D: Disk>(node: &Node<D>, me: NodeId, known: u32, recorded: u32) -> bo
     known < recorded && is_voted_by(node, last, me) && is_idle(node)
 }
 
-/// Whether the value of the first unknown instance is on record as learned, where so many are known.
+/// Whether the value of the first unknown instance is on record as learned. `known` values are known.
 fn has_kept<D: Disk>(node: &Node<D>, known: u32) -> bool
     ensures { (s : AbstractNode) → IsNodeOf node.now s → IsTrue result ↔ HasKept s known }
 {
@@ -86,7 +86,7 @@ fn has_kept<D: Disk>(node: &Node<D>, known: u32) -> bool
 }
 
 impl Seen {
-    /// What is seen of this node, after a batch that took in all that had come, or not.
+    /// What is seen of this node. `drained` says that the last batch took in all that had come.
     pub(crate) fn of<D: Disk>(node: &Node<D>, me: NodeId, recorded: u32, drained: bool) -> Seen
         ensures { (s : AbstractNode) → IsNodeOf node.now s → IsSeen s me recorded drained result }
     {

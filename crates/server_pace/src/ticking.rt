@@ -7,23 +7,23 @@ ghost use Rattle.server_pace.specs.Pacing.{noted, ticked, waited, GoesOn, Ticks}
 use crate::seen::Seen;
 use server_times::Times;
 
-/// Since when a tick is wanted and nothing became known, and how often it ticked since.
+/// Since when a tick is wanted and nothing became known, and how many ticks there were since.
 #[derive(Clone, Copy, Debug, PartialEq, Eq, Drop)]
 pub struct Ticking {
-    /// A tick is waited for since then, in milliseconds since the server began; never where none is wanted.
+    /// Since when a tick is waited for, in milliseconds since the server began; `None` if none is wanted.
     pub since: Option<u64>,
-    /// One was wanted first then, since the last news. `since` moves on from it at ticks, and while the
-    /// server leaves it to others.
+    /// Since when a tick is wanted, after the last news. `since` moves on from it at ticks, and while the
+    /// server leaves the decision to others.
     pub first: Option<u64>,
-    /// So many values were known as it was noted at last.
+    /// How many values were known at the last `noted`.
     pub known: u32,
-    /// Ticks that were due since the last news.
+    /// How many ticks were due since the last news.
     pub ticks: u32,
-    /// It waits so many patiences longer, for ticks in a row that were in vain: a majority answered, and no
+    /// How many patiences longer it waits, for ticks in a row that were in vain: a majority answered, and no
     /// news came before the next one.
     pub longer: u32,
-    /// So many values were known as it ticked last, if it did: as that was due, for a value that was fresh,
-    /// or at once.
+    /// How many values were known at its last tick, if there was one: a tick that was due, or for a fresh
+    /// value, or at once.
     pub at: Option<u32>,
     /// One instance became known after its last tick, by its own ballot, and its record had a vote further
     /// on.
@@ -31,7 +31,7 @@ pub struct Ticking {
 }
 
 impl Ticking {
-    /// None was wanted.
+    /// No tick was wanted.
     pub fn new() -> Ticking
         ensures { result ≡ first_ticking }
     {
@@ -46,8 +46,8 @@ impl Ticking {
         }
     }
 
-    /// Whether a value was just submitted that nobody tries: a tick begins to be wanted, and what the last
-    /// batch delivered, if anything, were questions.
+    /// Whether a value was just submitted that nobody tries: a tick begins to be wanted, and the last batch
+    /// delivered at most questions.
     pub fn is_fresh(self, wanted: bool, stirred: bool) -> bool
         ensures { IsTrue result ↔ (wanted ≡ true) × (self.since ≡ None) × (stirred ≡ false) }
     {
@@ -64,7 +64,7 @@ impl Ticking {
         }
     }
 
-    /// Whether the server leaves it to the others to decide: it has no stake, a message of an attempt came
+    /// Whether the server leaves the decision to the others: it has no stake, a message of an attempt came
     /// (`stirred`), and it has not done so for too long.
     fn leaves(self, times: Times, now: u64, seen: Seen, stirred: bool) -> bool
         ensures { result ≡ leaves self times now seen stirred }
@@ -73,9 +73,9 @@ impl Ticking {
         !seen.stake && (stirred && now.saturating_sub(first) < times.leaving)
     }
 
-    /// What stands now that so much is seen, and messages of attempts came since, or not (`stirred`). The
-    /// patience begins anew with news, and while it is left to others; ticks in vain are forgotten where news
-    /// came without a tick that was due.
+    /// The ticking now that this is seen. `stirred` says that messages of attempts came since the last time.
+    /// The patience begins anew with news, and while the decision is left to others. Ticks in vain are
+    /// forgotten if news came without a tick that was due.
     pub fn noted(self, times: Times, now: u64, seen: Seen, stirred: bool) -> Ticking
         ensures { result ≡ noted self times now seen stirred }
     {
@@ -103,8 +103,8 @@ impl Ticking {
         }
     }
 
-    /// How many times the patience is waited: once more after each tick, up to a number of times; or longer,
-    /// without a bound, after ticks in vain, and at least so much longer by a server without a stake.
+    /// How many patiences it waits: one more after each tick, up to `times.growth`; or more, without a bound,
+    /// after ticks in vain, and at least `times.longer` more by a server without a stake.
     fn waited(self, times: Times, stake: bool) -> u64
         ensures { result ≡ waited self times stake }
     {
@@ -113,8 +113,8 @@ impl Ticking {
         tries.max(u64::from(self.longer.max(least)) + 1)
     }
 
-    /// Whether a tick has been wanted for so long that it is due: so many times this patience. The server has
-    /// something to decide, or not (`stake`).
+    /// Whether a tick has been wanted for so long that it is due. `stake` says that the server has something
+    /// to decide.
     pub fn is_due(self, now: u64, patience: u64, times: Times, stake: bool) -> bool
         ensures { IsTrue result ↔ Ticks self now patience times stake }
     {
@@ -125,14 +125,14 @@ impl Ticking {
         }
     }
 
-    /// Whether the next tick is due at once and not a patience later.
+    /// Whether the next tick is due at once, not a patience later.
     pub fn goes_on(self) -> bool
         ensures { IsTrue result ↔ GoesOn self }
     {
         self.resumes && self.since.is_some()
     }
 
-    /// Whether it would go on, and heard of nothing further: the next of what is on its record has to be told
+    /// Whether it would go on, but heard of no further instance: the next one on its record has to be told
     /// first.
     pub fn awaits(self) -> bool
         ensures { result ≡ awaits self }
@@ -140,7 +140,7 @@ impl Ticking {
         self.resumes && self.since.is_none()
     }
 
-    /// It ticks, be it due or not.
+    /// It ticks, whether that is due or not.
     pub fn begun(self) -> Ticking
         ensures { result ≡ begun self }
     {
@@ -151,8 +151,8 @@ impl Ticking {
         }
     }
 
-    /// How many patiences longer it waits after a tick, where a majority answered since the one before, or
-    /// not.
+    /// How many patiences longer it waits after a tick. `answered` says that a majority answered since the
+    /// tick before.
     fn longer_after(self, times: Times, answered: bool) -> u32
         ensures { result ≡ longer_after self times answered }
     {
@@ -165,7 +165,7 @@ impl Ticking {
         }
     }
 
-    /// It ticks as that is due, and a majority answered since the last tick, or not.
+    /// It ticks because that is due. `answered` says that a majority answered since the last tick.
     pub fn ticked(self, times: Times, now: u64, answered: bool) -> Ticking
         ensures { result ≡ ticked self times now answered }
     {

@@ -8,32 +8,33 @@ use crate::places::places_behind;
 use server_times::Times;
 use site_ids::{NodeId, NodeSet};
 
-/// In a stretch it yields for less than so many times as long as the last attempts stood, and a millisecond
-/// more: turns of six others.
+/// In a stretch it yields for less than this many times the time that the last attempts stood, and a
+/// millisecond more: turns of six others.
 const TURNS: u64 = 6;
 
-/// Whose attempts this server saw at its first unknown instance, and since when it yields.
+/// Whose attempts this server saw at its first unknown instance, and since when it yields. An attempt stands
+/// there while the instance is promised to its node.
 #[derive(Clone, Copy, Debug, PartialEq, Eq, Drop)]
 pub struct Yielding {
-    /// Those that tried since it last waited in vain.
+    /// The nodes that tried since it last waited in vain.
     pub tried: NodeSet,
     /// Whose attempt stands there now.
     pub tries: Option<NodeId>,
     /// Whose attempt stood there last.
     pub last: Option<NodeId>,
-    /// Since when that node's attempts stand there, in milliseconds since the server began; never where none
+    /// Since when that node's attempts stand there, in milliseconds since the server began; `None` if none
     /// does.
     pub stands: Option<u64>,
-    /// Since when none does.
+    /// Since when no attempt stands there.
     pub free: Option<u64>,
-    /// For how many milliseconds those of the node before stood there.
+    /// For how many milliseconds the attempts of the node before stood there.
     pub took: u64,
     /// Since when it yields.
     pub since: Option<u64>,
 }
 
 impl Yielding {
-    /// It saw none.
+    /// It saw no attempt.
     pub fn new() -> Yielding
         ensures { result ≡ first_yielding }
     {
@@ -58,7 +59,7 @@ impl Yielding {
         }
     }
 
-    /// The attempts that stood there do no more.
+    /// The attempts that stood there have ended.
     fn end(&mut self, now: u64)
         ensures { self.new ≡ ended self.old now }
     {
@@ -68,7 +69,7 @@ impl Yielding {
         self.stands = None;
     }
 
-    /// The first unknown instance is promised to a node now, or to none.
+    /// The first unknown instance is now promised to a node, or to none.
     pub fn note(&mut self, now: u64, tries: Option<NodeId>)
         ensures { self.new ≡ noted_tries self.old now tries }
     {
@@ -88,7 +89,7 @@ impl Yielding {
         self.free = None;
     }
 
-    /// Whether one that tried comes before this server, after the one that tried last.
+    /// Whether another server that tried comes before this one, after the one that tried last.
     fn is_behind(&self, me: NodeId) -> bool
         ensures { IsTrue result ↔ IsBehind self.now me }
     {
@@ -106,7 +107,7 @@ impl Yielding {
         false
     }
 
-    /// Whether another one's attempt stands at the first unknown instance, or it is another one's turn.
+    /// Whether another server's attempt stands at the first unknown instance, or it is another one's turn.
     pub fn waits(&self, me: NodeId) -> bool
         ensures { IsTrue result ↔ Waits self.now me }
     {
@@ -117,7 +118,7 @@ impl Yielding {
     }
 
     /// Whether no attempt has stood there for longer than those of the last node did, and a millisecond more:
-    /// a clock that counts milliseconds may have taken one for none.
+    /// a clock that counts milliseconds may show 0 for 1.
     fn is_soon(&self, now: u64) -> bool
         ensures { IsTrue result ↔ IsSoon self.now now }
     {
@@ -127,7 +128,7 @@ impl Yielding {
         }
     }
 
-    /// Whether it may have yielded for so many milliseconds in a stretch, and yield on.
+    /// Whether it may yield on after `millis` milliseconds in a stretch.
     fn may_go_on(&self, times: Times, millis: u64) -> bool
         ensures { IsTrue result ↔ MayGoOn self.now times millis }
     {
@@ -144,8 +145,8 @@ impl Yielding {
         self.may_go_on(times, stretch) && soon && self.waits(me)
     }
 
-    /// It yields now, or does not. Where it waited in vain, nobody's turn is before its own until one tries
-    /// again.
+    /// Notes whether it yields now. If it waited in vain, nobody's turn is before its own until another one
+    /// tries again.
     pub fn pass(&mut self, now: u64, waits: bool, yields: bool)
         ensures { self.new ≡ yielding_after self.old now waits yields }
     {

@@ -7,7 +7,7 @@ use Rattle.server_packets.specs.declared.TheConstants.{MARK}
 abbrev pub OneList : Type 0
 OneList = (bytes : List ℕ) (ds es : List (List ℕ)) → Holds bytes ds → Holds bytes es → ds ≡ es
 
--- it doesn't begin with the mark
+-- the datagram doesn't begin with the mark
 abbrev pub IsUnmarked : List ℕ → Type 0
 IsUnmarked d = (rest : List ℕ) → d ≢ MARK ∷ rest
 
@@ -16,6 +16,6 @@ abbrev pub MayGo : List (List ℕ) → Type 0
 MayGo (d ∷ []) = IsUnmarked d
 MayGo ds = ⊤
 
--- what is sent of datagrams holds these
+-- what is sent for some datagrams holds these
 abbrev pub SentIsHeld : Type 0
 SentIsHeld = (bytes : List ℕ) (ds : List (List ℕ)) → MayGo ds → IsSent ds bytes → Holds bytes ds

@@ -33,7 +33,7 @@ fn length_of(datagram: &[u8]) -> [u8; LENGTH_BYTES]
 impl Packet {
     ghost use Rattle.server_packets.specs.Making.{HasRoom, Packs};
 
-    /// None yet.
+    /// A packet without datagrams.
     pub fn new(alloc: Global) -> Result<Packet, AllocError>
         ensures { IfOk result (λ packet. Packs packet []) }
     {
@@ -42,7 +42,7 @@ impl Packet {
         Ok(Packet { bytes, count: 0 })
     }
 
-    /// None any more. The memory stays.
+    /// Removes the datagrams. The memory stays.
     pub fn clear(&mut self)
         ensures { (ds : List (List ℕ)) → Packs self.old ds → Packs self.new [] }
     {
@@ -86,7 +86,7 @@ impl Packet {
         Ok(())
     }
 
-    /// The same as a packet, even if it is one datagram, unless that has more bytes than a packet may.
+    /// The datagrams as a packet, even if it is only one, unless that has more bytes than a packet may.
     pub fn as_packet(&self) -> Option<&[u8]>
         ensures fits { IfSome result (λ bytes. (ds : List (List ℕ)) → Packs self.now ds
             → IsPacketOf ds bytes.now) }

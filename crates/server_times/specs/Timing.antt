@@ -3,7 +3,7 @@ use Rattle.std.specs.Prelude.{ℕ, ◌+◌, ◌-◌, ◌*◌, ◌/◌, ◌^◌, 
 use Rattle.std.specs.Prelude.{if◌then◌else◌, Option, Some, None}
 use Rattle.server_times.specs.declared.times.Times.{Times}
 
--- so many milliseconds have passed since then; since never they have
+-- millis milliseconds have passed since then; they also have if there is no such moment
 abbrev pub passed : Option ℕ → ℕ → ℕ → Bool
 passed None now millis = true
 passed (Some since) now millis = nat_le millis (now - since)
@@ -12,17 +12,17 @@ passed (Some since) now millis = nat_le millis (now - since)
 abbrev pub patience_of : Times → ℕ → ℕ
 patience_of times node = min (times.patience * (node + 1)) (2 ^ 64 - 1) / 2
 
--- after a question that brought nothing; empty is how many steps went by in which nothing came
+-- after a question that brought nothing; empty counts the steps in which nothing came
 abbrev pub asks_after : Times → ℕ → ℕ
 asks_after times empty = if nat_lt empty times.quiet then times.asking else times.quiet_asking
 
--- where it is behind and knows no more than at its last question: once more as long after each question in a
+-- if it is behind and knows no more than at its last question: longer by times.again after each question in a
 -- row for one instance
 abbrev pub asks_again_after : Times → ℕ → ℕ → ℕ
 asks_again_after times again empty =
     min (min (times.again * (again + 1)) (2 ^ 64 - 1)) (asks_after times empty)
 
--- after so many steps in which nothing came, in microseconds; with few clients it does not rest at first
+-- after empty steps in which nothing came, in microseconds; with few clients it does not rest at first
 abbrev pub long_rest : Times → ℕ → ℕ → ℕ
 long_rest times empty clients =
     if nat_lt empty times.eager && nat_le clients times.few then 0

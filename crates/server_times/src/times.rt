@@ -5,71 +5,71 @@ ghost use Rattle.server_times.specs.Timing.{asks_after, asks_again_after, long_r
 ghost use Rattle.server_times.specs.Timing.{rest_after};
 ghost use Rattle.server_times.specs.declared.times.TheConstants.{STANDARD};
 
-/// All that a server waits for, in one place.
+/// All times that a server waits, in one place.
 #[derive(Clone, Copy, Debug, PartialEq, Eq, Drop)]
 pub struct Times {
     /// Milliseconds without news after which it tries a value again, at least: more at greater numbers
     /// (`Pace`). An option of the command line; the servers of a group may have different ones.
     pub patience: u64,
-    /// The patience grows with the tries that brought no news, up to so many times (`Ticking`).
+    /// How many patiences it waits at most after tries that brought no news, `longer` aside (`Ticking`).
     pub growth: u32,
-    /// After each try that a majority answered and that brought no news it waits so many patiences longer,
-    /// without a bound; and so many at least without a stake (`Ticking`). So servers far apart
-    /// do not outbid one another for ever.
+    /// How many patiences longer it waits after each try that a majority answered and that brought no news,
+    /// without a bound. A server without a stake always waits at least as many longer (`Ticking`). So servers
+    /// far apart do not outbid one another for ever.
     pub longer: u32,
-    /// Milliseconds for which a server without a stake leaves it to the others to decide, at most, while
+    /// Milliseconds for which a server without a stake leaves the decision to the others, at most, while
     /// their messages come (`Ticking`).
     pub leaving: u64,
-    /// Milliseconds between two questions to the others of which the first brought nothing (`LastQuestion`).
+    /// Milliseconds between a question to the others that brought nothing and the next one (`LastQuestion`).
     pub asking: u64,
-    /// The same where it is quiet.
+    /// The same while it is quiet.
     pub quiet_asking: u64,
-    /// Milliseconds after which a server that knows no more than at its last question, and is behind, asks
-    /// again the first time. It waits as much longer each time after that (`LastQuestion`).
+    /// Milliseconds after which a server that is behind, and knows no more than at its last question, asks
+    /// again the first time. It waits this much longer each time after that (`LastQuestion`).
     pub again: u64,
-    /// A node is told of so many stretches past the instance of its last question, at first and at least
+    /// How many stretches past the instance of its last question a node is told, at first and at least
     /// (`Course`). A stretch is what one telling covers: 64 instances, or 65,536 bytes of values.
     pub least: u32,
     /// The same, at most.
     pub most: u32,
-    /// Milliseconds that a question and the first of its answers are taken to need, before any came
+    /// Milliseconds that a question and its first answer are taken to need, before any answer came
     /// (`Course`).
     pub flight: u64,
-    /// Milliseconds after which an instance that was asked for before is no late datagram: the node that asks
+    /// Milliseconds after which a question for an earlier instance is no late datagram: the node that asks
     /// began anew (`Course`).
     pub late: u64,
-    /// Milliseconds without a message of a node after which it is taken to tell nobody anything (`Present`).
-    /// A node asks more often.
+    /// Milliseconds without a message from a node after which it is taken to tell nobody anything
+    /// (`Present`). A node asks more often.
     pub silent: u64,
     /// Milliseconds that a value which became known waits to be put on record: others that become known
-    /// meanwhile share its seal (`Keeping`). What a full block leaves over waits anew.
+    /// meanwhile share its seal (`Keeping`). Values that a full block leaves over wait anew.
     pub keeping: u64,
-    /// So many values do not wait for others (`Keeping`).
+    /// How many values do not wait for others (`Keeping`).
     pub block: u32,
-    /// Milliseconds for which a node is sent packets after one that came of it: so one that reads none, or
-    /// no longer, gets datagrams (`Peers`).
+    /// Milliseconds for which a node is sent packets after one came from it: a node that reads none, or no
+    /// longer does, gets datagrams (`Peers`).
     pub packets: u64,
-    /// Milliseconds between two packets that another node is sent at least, so that it learns that this one
-    /// reads them (`Peers`).
+    /// The longest time, in milliseconds, between two packets to another node, so that it learns that this
+    /// one reads them (`Peers`).
     pub showing: u64,
     /// Milliseconds in a stretch for which it yields to others that try, at most (`Yielding`).
     pub yielding: u64,
-    /// After so many steps in which nothing came it is idle: more than a client takes to come again
+    /// After how many steps in which nothing came it is idle: more than a client takes to come again
     /// (`Pace::rest`).
     pub idle: u32,
-    /// After so many it is quiet: some three seconds (`Pace::rest`).
+    /// After how many of them it is quiet: some three seconds (`Pace::rest`).
     pub quiet: u32,
-    /// For so many steps in which nothing came, one after another, it does not rest: a client that was
+    /// For how many steps in which nothing came, one after another, it does not rest: a client that was
     /// answered comes again at once, and so does another node's message (`Pace::rest`).
     pub eager: u32,
-    /// So it is with so many clients at most. With more it rests after each such step: meanwhile several come,
-    /// and the next step answers them together (`Pace::rest`).
+    /// With how many clients at most it goes without rest. With more it rests after each such step: meanwhile
+    /// several come, and the next step answers them together (`Pace::rest`).
     pub few: usize,
     /// Microseconds that it rests after a step in which nothing came, while it is busy (`Pace::rest`).
     pub rest: u64,
-    /// The same where it is idle.
+    /// The same while it is idle.
     pub idle_rest: u64,
-    /// The same where it is quiet.
+    /// The same while it is quiet.
     pub quiet_rest: u64,
     /// Microseconds that it rests at most if it told a node something in this step or in the one before it:
     /// the next telling is near, and no telling wakes a server (`Pace::rest`).
@@ -77,31 +77,31 @@ pub struct Times {
     /// Milliseconds that a connection is kept open between requests: nothing of the next one came, and
     /// nothing is left to write. RFC 9112, section 9.5, permits to close one at any time.
     pub between_requests: u64,
-    /// Milliseconds that a request which has begun, or a response which its client does not read, is given
+    /// Milliseconds that a request which has begun, or a response which its client does not read, may go
     /// without a byte that moves.
     pub without_progress: u64,
-    /// Milliseconds for which a server that begins leaves requests, at most, while it knows less than its
-    /// record has (`Returning`).
+    /// Milliseconds for which a server that begins leaves requests unanswered, at most, while it knows fewer
+    /// values than its record has (`Returning`).
     pub returning: u64,
-    /// Milliseconds for which what a client still sends after its last response is read and dropped, at
-    /// most, so that the response is not lost (RFC 9112, section 9.6): a client that reads it closes within
-    /// that (`Linger`).
+    /// Milliseconds, at most, for which the server reads and drops what a client still sends after its last
+    /// response. So the response is not lost (RFC 9112, section 9.6): a client that reads it closes within
+    /// that time (`Linger`).
     pub lingering: u64,
-    /// Milliseconds for which a request keeps a seat from others: one that takes longer, as its client sends
-    /// or reads slowly, goes for another client where all seats are taken (`Seats::make_room`).
+    /// Milliseconds for which a request keeps a seat from others. One that takes longer, because its client
+    /// sends or reads slowly, is dropped for another client if all seats are taken (`Seats::make_room`).
     pub keeps_seat: u64,
-    /// Milliseconds for which a request for a receipt that is not there yet is left, after the last bytes
-    /// that its client sent: most values are known by then, and a client asks once.
+    /// Milliseconds, after the last bytes of the client, for which a request for a receipt that is not there
+    /// yet is left: most values are known by then, and a client asks once.
     pub receipts: u64,
-    /// Milliseconds, after the last bytes that its client sent, for which the responses before such a request
-    /// are held back. Most receipts are there by then, and go out together with these responses (`Hold`).
+    /// Milliseconds, after the last bytes of the client, for which the responses before such a request are
+    /// held back. Most receipts are there by then, and go out together with these responses (`Hold`).
     pub holds: u64,
-    /// Milliseconds that a request is given, from its first byte to the last of its response, where that is
+    /// Milliseconds that a request is given, from its first byte to the last of its response, if that is
     /// limited. An option of the command line.
     pub serve_ms: Option<u64>,
 }
 
-/// Those of a command line that names none.
+/// The times of a command line that names none.
 const STANDARD: Times = Times {
     patience: 100,
     growth: 3,
@@ -138,8 +138,8 @@ const STANDARD: Times = Times {
     serve_ms: None,
 };
 
-/// Whether so many milliseconds have passed since then, by a clock in milliseconds that never goes back:
-/// since never they have.
+/// Whether `millis` milliseconds have passed since then, by a clock that never goes back. They have if
+/// `since` is `None`.
 pub fn has_passed(since: Option<u64>, now: u64, millis: u64) -> bool
     ensures is { result ≡ passed since now millis }
     ensures rule { IsTrue result ↔ IfSome since (λ then. millis ≤ now - then) }
@@ -151,7 +151,7 @@ pub fn has_passed(since: Option<u64>, now: u64, millis: u64) -> bool
 }
 
 impl Times {
-    /// Those of a command line that may name a patience and a limit for connections.
+    /// The times of a command line, which may name a patience and a limit for connections.
     pub fn new(patience: Option<u64>, serve_ms: Option<u64>) -> Times
         ensures { result ≡ record STANDARD {
           patience = unwrap_or patience STANDARD.patience;
@@ -166,15 +166,15 @@ impl Times {
     }
 
     /// How many milliseconds the server of that number waits before its first try: longer at greater numbers,
-    /// so that two do not try as one.
+    /// so that no two try at once.
     pub fn patience_of(self, node: u8) -> u64
         ensures { result ≡ patience_of self node }
     {
         self.patience.saturating_mul(u64::from(node) + 1) / 2
     }
 
-    /// How many milliseconds after a question that brought nothing the next one comes, after so many steps
-    /// in which nothing came.
+    /// How many milliseconds after a question that brought nothing the next one comes. Nothing came in the
+    /// last `empty` steps.
     pub fn asks_after(self, empty: u32) -> u64
         ensures { result ≡ asks_after self empty }
     {
@@ -185,8 +185,8 @@ impl Times {
         }
     }
 
-    /// How many milliseconds after a question the next one comes, if it is behind and knows no more: after
-    /// so many questions in a row for one instance, and so many steps in which nothing came.
+    /// How many milliseconds after a question the next one comes, if the server is behind and knows no more.
+    /// `again` questions in a row were for one instance, and nothing came in the last `empty` steps.
     pub fn asks_again_after(self, again: u32, empty: u32) -> u64
         ensures is { result ≡ asks_again_after self again empty }
         ensures bound { result ≤ asks_after self empty }
@@ -195,8 +195,8 @@ impl Times {
         longer.min(self.asks_after(empty))
     }
 
-    /// How many microseconds it rests after so many steps in which nothing came: the longer the more there
-    /// were. It has so many clients.
+    /// How many microseconds the server rests after `empty` steps in which nothing came: longer after more of
+    /// them.
     fn long_rest(self, empty: u32, clients: usize) -> u64
         ensures { result ≡ long_rest self empty clients }
     {
@@ -211,8 +211,8 @@ impl Times {
         }
     }
 
-    /// How many microseconds it rests after a step in which nothing came, and so many others before it. It
-    /// tells somebody something (`tells`), or it does not, and has so many clients.
+    /// How many microseconds the server rests after a step in which nothing came, and `empty` others before
+    /// it. `tells` says that it tells somebody something.
     pub fn rest_after(self, empty: u32, tells: bool, clients: usize) -> u64
         ensures is { result ≡ rest_after self empty tells clients }
         ensures longer { (fewer : ℕ) → fewer ≤ empty → self.rest ≤ self.idle_rest

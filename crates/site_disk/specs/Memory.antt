@@ -19,13 +19,13 @@ after_call d Read = d
 after_call d (Write at bytes) = after_write d at (length bytes.items) (overwritten d.seen at bytes.items)
 after_call d Sync = after_sync d
 
--- the state after all calls, the first of them first
+-- the state after all calls, in their order
 abbrev pub after_calls : DiskState → List Call → DiskState
 after_calls d [] = d
 after_calls d (call ∷ calls) = after_calls (after_call d call) calls
 
--- its calls since the last crash lead from what that crash left to this state, of which it keeps both
--- contents; no crash will want memory
+-- its calls since the last crash lead from what that crash left to this state, and it keeps both contents of
+-- this state; no crash will allocate
 pub record MemoryStandsFor (disk : MemDisk) (d : DiskState) : Type 0 where
   pub replay : after_calls (at_rest disk.first.items []) disk.calls.items ≡ d
   pub seen : disk.bytes.items ≡ d.seen

@@ -1,6 +1,6 @@
 //! What a disk promises to the layers above it.
 //!
-//! What a range beyond the end gives is left open; `MemDisk` refuses it.
+//! The trait does not say what a range beyond the end gives; `MemDisk` refuses it.
 
 ghost use Rattle.std.specs.Prelude.{◌≡◌, ◌⊎◌, ◌+◌, ◌≤◌, ◌∷◌, List, ℕ, length, take, drop, IfOk, OnOk, OnErr};
 ghost use Rattle.std.specs.Prelude.{IsTrue, IsFalse};
@@ -24,8 +24,8 @@ impl From<AllocError> for DiskFailed {
     }
 }
 
-/// One file. Its clauses speak of each state of the model that the disk stands for. What a range beyond the
-/// file's end gives is left open.
+/// One file. Its clauses are about each state of the model that the disk stands for. They do not say what a
+/// range beyond the file's end gives.
 pub trait Disk {
     /// The disk stands for this state of the model.
     ghost stands_for: { Self → DiskState → Type 0 };
@@ -59,8 +59,8 @@ pub trait Disk {
             × stands_for self.new (after_write d at (length bytes.now) seen))) }
         ensures cause { CountsFailure result (failed self.old) (failed self.new) };
 
-    /// Writes as `write_at` does, to make the file longer before that is needed. Want of room is no failure
-    /// of the device: at `false` some of the bytes may have been written, and no failure is counted.
+    /// Writes as `write_at` does, to make the file longer before that is needed. A disk without room is no
+    /// failure of the device: at `false` some of the bytes may have been written, and no failure is counted.
     fn lengthen(&mut self, at: u64, bytes: &[u8]) -> bool
         ensures written { IsTrue result → (d : DiskState) → stands_for self.old d → at ≤ length d.seen
             → stands_for self.new (after_write d at (length bytes.now) (overwritten d.seen at bytes.now)) }
@@ -69,7 +69,7 @@ pub trait Disk {
             × stands_for self.new (after_write d at (length bytes.now) seen)) }
         ensures uncounted { failed self.new ≡ failed self.old };
 
-    /// Puts all that was written on the disk to stay. A sync that fails counts as none.
+    /// Puts all that was written on the disk to stay. A sync that fails counts as no sync.
     fn sync(&mut self) -> Result<(), DiskFailed>
         ensures synced { OnOk result ((d : DiskState) → stands_for self.old d
             → stands_for self.new (after_sync d)) }
@@ -77,9 +77,9 @@ pub trait Disk {
         ensures cause { CountsFailure result (failed self.old) (failed self.new) };
 }
 
-/// A disk that can be told to fail.
+/// A disk that can be made to fail.
 pub trait Armed: Disk {
-    /// How many further calls it was told to let pass.
+    /// How many further calls it was armed to let pass.
     ghost armed: { Self → ℕ → Type 0 };
 
     /// Lets this many further calls pass before it fails.

@@ -31,8 +31,8 @@ impl Failures {
     }
 }
 
-/// A real file, open for reading and writing. That it keeps the model is a premise: it is not claimed to
-/// stand for any state of the model.
+/// A real file, open for reading and writing. It is a premise that it keeps the model: no clause says that it
+/// stands for a state of the model.
 #[derive(Drop)]
 pub struct FileDisk {
     file: File,

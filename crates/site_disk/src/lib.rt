@@ -1,5 +1,5 @@
-//! The disk file under a node's record: what it promises, one in memory that can fail and crash, one of which
-//! one call fails, and a real one.
+//! The disk file under a node's record: what it promises, and three disks: one in memory that can fail and
+//! crash, one that lets one call of another disk fail, and a real file.
 #![tactic(auto)]
 
 mod count;

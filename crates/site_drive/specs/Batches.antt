@@ -1,5 +1,5 @@
 -- A batch: all that came is delivered, and then comes the last call. What they put on record is on the disk
--- before anything that they hand out is given away.
+-- before anything that they hand out is sent.
 use Rattle.std.specs.Prelude.{◌≡◌, ◌≢◌, ◌⊎◌, ℕ, List, ◌∷◌, ◌++◌, map, Some, Result, IfOk, IfErr}
 use Rattle.site_disk.specs.Model.{DiskState, LeavesOnly}
 use Rattle.wire.specs.declared.message.Message.{Message}
@@ -16,7 +16,7 @@ use Rattle.site_drive.specs.declared.last_call.LastCall.{LastCall}
 use Rattle.site_drive.specs.Drives.{TakesAll, EndsLast, EndsTurns, BreaksOff}
 use Rattle.site_drive.specs.Leading.{AllFit, StaysWhose}
 
--- ---- deliveries and calls, of which nothing is given away yet
+-- ---- deliveries and calls, before anything is sent
 
 -- these datagrams are delivered, one after another, as in turns
 abbrev pub TakesEach : ℕ → ℕ → List (List ℕ) → ℕ → List (To × Message) → Node → Node → Type 0
@@ -76,15 +76,14 @@ pub record LeadsSealed {D : Type 0} (stands_for : D → DiskState → Type 0) (o
   pub leads : (s : Node) → IsNodeOf old s → (next : Node) × How s next × IsNodeOf new next
       × StaysOnDisk stands_for old new s next
 
--- a whole batch, after which all that is known without a gap is published. What it handed out may be given
--- away
+-- a whole batch, after which all that is known without a gap is published. What it handed out may be sent
 pub record TakesBatch (last : LastCall) (n p : ℕ) (came : List (List ℕ)) (malformed : ℕ) (out : List (To
     × Message)) (fed : List (List ℕ)) (s next : Node) : Type 0 where
   pub works : Works last n p came malformed out s next
   pub fed_is : IsKnownPrefix next fed
 
--- given up. The batch was not begun, as the node is stopped or an allocation failed; or its work is given up;
--- or an allocation failed as the node published
+-- given up. The batch was not begun, because the node is stopped or an allocation failed; or its work is
+-- given up; or an allocation failed as the node published
 abbrev pub GivesUpBatch : LastCall → ℕ → ℕ → List (List ℕ) → NodeFault → Node → Node → Type 0
 GivesUpBatch last n p came why s next =
     ((why ≡ fault.Stopped) × (s.mode ≡ Stopped) × (next ≡ s))
@@ -95,7 +94,7 @@ GivesUpBatch last n p came why s next =
 -- ---- a batch that is lost
 
 -- the disk keeps what was there before, with all that was put since or with none of it, whether it crashes or
--- not. The same is so at any moment of the batch
+-- not. That holds at any moment of the batch
 abbrev pub LeavesEither : {D : Type 0} → (D → DiskState → Type 0) → Running D → Running D → Node → Node
     → Type 0
 LeavesEither stands_for old new s t = (d : DiskState) → IsOnDisk stands_for old s d
@@ -116,8 +115,8 @@ pub record LosesBatch {D : Type 0} (stands_for : D → DiskState
 abbrev pub IsStop : NodeFault → Type 0
 IsStop why = (why ≡ fault.Device) ⊎ (why ≡ fault.Stopped)
 
--- The batch is whole, and what it handed out waits to be given away; or it is given up, and sealed; or it is
--- lost. It stays the same node, and a failure of the device is reported
+-- The batch is whole, and what it handed out waits to be sent; or it is given up, and sealed; or it is lost.
+-- The node stays the same, and a failure of the device is reported
 pub record EndsBatch {D : Type 0} (stands_for : D → DiskState → Type 0) (device : D
     → ℕ) (last : LastCall) (came : List (List ℕ)) (out : List (To
     × Message)) (old new : Running D) (result : Result ℕ NodeFault) : Type 0 where

@@ -8,7 +8,7 @@ use Rattle.wire.specs.declared.message.Message.{Message}
 use Rattle.wire.specs.declared.message.Message.TheVariants.{Prepare, Promise, Propose, Nack, Ask}
 use Rattle.site_drive.specs.declared.delivered.Delivered.{Delivered}
 
--- the instance that each node's last question was for. Node p has the place p - 1
+-- the instance that each node's last question was for; node p is at index p - 1
 abbrev pub asked_by : Message → List (Option ℕ) → List (Option ℕ)
 asked_by (Ask q i) asked = set asked (q - 1) (Some i)
 asked_by _ asked = asked

@@ -107,8 +107,8 @@ pub record TicksAndWidens (n p : ℕ) (s : Node) (ending : Ending) (out : List (
   pub widens : Widens n p mid ending widened next
   pub out_is : out ≡ ticked ++ widened
 
--- If a tick is wanted, either the tick ends in this way and is not whole, or widenings follow it, and the
--- last of them ends in this way. If no tick is wanted, a question ends in this way
+-- If a tick is wanted, the tick ends in this way and is not whole; or widenings follow it, and the last of
+-- them ends in this way. If no tick is wanted, a question ends in this way
 abbrev pub TicksOrAsks : ℕ → ℕ → Node → Ending → List (To × Message) → Node → Type 0
 TicksOrAsks n p s ending out next =
     (WantsTick s × (((ending ≢ Whole) × Ends n p s tick ending out next)
@@ -140,7 +140,7 @@ EndsLast (Tell q i) n p s ending out next = Ends n p s (tell (One q) i) ending o
 EndsLast (Keep i count) n p s ending out next = KeepsEach n p i count s ending next × (out ≡ [])
 EndsLast Nothing n p s ending out next = (ending ≡ Whole) × (out ≡ []) × (next ≡ s)
 
--- they are whole; or they are refused as every instance is known, which is ignored
+-- the calls are whole; or they are refused because every instance is known, which is ignored
 abbrev pub EndsTurns : LastCall → ℕ → ℕ → Node → List (To × Message) → Node → Type 0
 EndsTurns last n p s out next = EndsLast last n p s Whole out next
     ⊎ EndsLast last n p s (Refused InstancesUsedUp) out next
@@ -160,7 +160,7 @@ pub record DrivesWith (last : LastCall) (n p turns malformed : ℕ) (fed : List 
   pub then_closes : Closes last n p mid after
   pub fed_is : turns ≢ 0 → IsKnownPrefix after.node fed
 
--- in a drive, a tick with widenings, or a question
+-- in a drive: a tick with widenings, or a question
 abbrev pub Drives : ℕ → ℕ → ℕ → ℕ → List (List ℕ) → Scene → Scene → Type 0
 Drives = DrivesWith TickOrAsk
 

@@ -18,8 +18,8 @@ pub record CallsLink {L : Type 0} (tried failed : L → ℕ) (turns : ℕ) (befo
   pub told : IfOk result (λ driven. RoseBy driven.failed (failed before) (failed after))
   pub not_told : OnErr result ((calls : ℕ) × RoseBy calls (failed before) (failed after))
 
--- a whole drive leads on in the one way, and one that is given up in the other. It stays the same node. A
--- failure of the device is reported, and no other failure was counted
+-- a whole drive leads on as IsWhole says, and one that is given up as GivesUp says. The node stays the same.
+-- A failure of the device is reported, and no other failure was counted
 pub record EndsDrive {D L : Type 0} (stands_for : D → DiskState → Type 0) (device : D → ℕ)
     (received : L → List (List ℕ) → Type 0) (given : L → List (ℕ × List ℕ) → Type 0) (tried failed : L → ℕ)
     (turns : ℕ) (old new : Running D) (before after : L) (result : Result Driven NodeFault) (IsWhole : Driven

@@ -17,7 +17,7 @@ use Rattle.site_drive.specs.declared.last_call.LastCall.{LastCall}
 abbrev pub AllFit : List (To × Message) → Type 0
 AllFit out = (x : To × Message) → In out x → Fits x.1
 
--- what the disk keeps of one node it keeps of the next
+-- if the disk keeps the one node, it keeps the next one
 abbrev pub KeepsRecord : {D : Type 0} → (D → DiskState → Type 0) → Running D → Running D → Node → Node
     → Type 0
 KeepsRecord stands_for old new s next = (d : DiskState) → IsOnDisk stands_for old s d → (e : DiskState)
@@ -55,7 +55,7 @@ pub record LeadsTo {D L : Type 0} (stands_for : D → DiskState → Type 0)
   pub leads : (x : Scene) → IsAt received given old before x → (y : Scene) × How x y
       × IsAt received given new after y × KeepsRecord stands_for old new x.node y.node
 
--- it stays the same node, and what was published only grows, at its end
+-- the node stays the same, and what was published only grows, at its end
 pub record StaysWhose {D : Type 0} (old new : Running D) : Type 0 where
   pub me : new.me ≡ old.me
   pub cluster : new.cluster ≡ old.cluster

@@ -6,7 +6,7 @@ use Rattle.wire.specs.Spelling.{spelled}
 use Rattle.node.specs.declared.to.To.{To}
 use Rattle.site_drive.specs.declared.letter.Letter.{Letter}
 
--- what these datagrams are
+-- the bytes of these datagrams
 abbrev pub bytes_of : List (Vec ℕ Global) → List (List ℕ)
 bytes_of came = map (λ d. d.items) came
 

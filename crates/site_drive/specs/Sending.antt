@@ -2,7 +2,7 @@
 use Rattle.std.specs.Prelude.{ℕ}
 use Rattle.site_drive.specs.Links.{RoseBy}
 
--- as many failed by one's own count as by the link's
+-- the own count rose by as many calls as the link's
 pub record Counted (mine mine_after link link_after : ℕ) : Type 0 where
   pub calls : ℕ
   pub here : RoseBy calls mine mine_after

@@ -1,7 +1,7 @@
-//! A batch: all that a node does with what came is on the disk together, before anything that it hands out is
-//! given away.
+//! A batch: all that a node does with what came is on the disk together, before the node sends any of its
+//! messages.
 //!
-//! If there is no memory to begin a batch, the batch is given up, and the server ends.
+//! If a batch cannot be begun because an allocation fails, it is given up, and the server ends.
 
 ghost use Rattle.std.specs.Prelude.{◌≡◌, ◌⊎◌, ◌≤◌, [], Bool, true, length, IfOk, IfErr, IsErrOf, OnOk, OnErr};
 ghost use Rattle.node.specs.Standing.{IsNodeOf, StaysOnDisk, KeepsOthers, CountsDevice, failures};
@@ -106,7 +106,7 @@ impl Desk {
         Ok(malformed)
     }
 
-    /// Has the node's file grow ahead, if that is due. Want of room is no fault.
+    /// Lets the node's file grow ahead, if that is due. A disk without room is no fault.
     fn make_room<D: Disk>(&mut self, node: &mut Node<D>, idle: bool) -> Result<(), NodeFault>
         ensures grown { OnOk result (IsDue self.old.ahead node.old.store.recorded.gate idle
             → (there : Bool) × GrowsAt D.stands_for node.old node.new self.old.ahead.size there) }
@@ -150,14 +150,14 @@ impl Desk {
         self.take_sealed(node, came, last)
     }
 
-    /// One batch: delivers what came, in order, and makes the last call. What that puts on record is written
-    /// to the disk by two writes and two syncs, or by none if nothing was put. Before that the record's file
-    /// grows ahead, if the desk was told so and it is due (`Room`). Then the node publishes. What the node
+    /// One batch: delivers what came, in order, and makes the last call. What that put on record reaches the
+    /// disk by two writes and two syncs, or by none if nothing was put. Before that the record's file grows
+    /// ahead, if the desk has room for that and it is due (`Room`). Then the node publishes. What the node
     /// hands out waits for `post`. Returns how many datagrams spell no message: they are ignored, as losses.
     ///
-    /// A device that fails leaves all of it on the disk or nothing, and stops the node. After a failed
-    /// allocation what was done before is on the disk. After any fault nothing waits for `post`: what waits
-    /// there is sealed. What was delivered stays to be asked for (`delivered`).
+    /// If the device fails, all of the batch is on the disk or nothing, and the node is stopped. If an
+    /// allocation fails, what was done before is on the disk. After any fault nothing waits for `post`: what
+    /// waits there is sealed. What was delivered can still be asked for (`delivered`).
     pub fn take_batch<D: Disk>(
         &mut self,
         node: &mut Node<D>,

@@ -15,7 +15,7 @@ use node::{Node, NodeFault, To};
 use site_disk::Disk;
 use site_ids::Instance;
 
-/// Keeps what is known at `count` instances from the first one on, as far as there are instances.
+/// Keeps what is known at `count` instances from `first` on, as far as there are instances.
 fn keep_each<D: Disk>(node: &mut Node<D>, first: Instance, count: u32) -> Result<(), NodeFault>
     ensures event { NodeLeads D.stands_for node.old node.new
         (λ s next. KeepsEach node.old.cluster node.old.me first count s (ending_of result) next) }
@@ -85,7 +85,7 @@ impl Desk {
         }
     }
 
-    /// The same. That every instance is known is ignored.
+    /// Makes the last call. The refusal is ignored if every instance is known.
     pub(crate) fn last_call<D: Disk>(
         &mut self,
         node: &mut Node<D>,

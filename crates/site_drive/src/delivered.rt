@@ -1,4 +1,4 @@
-//! What a drive delivered, by kinds.
+//! What a drive delivered, by kind.
 
 ghost use Rattle.std.specs.Prelude.{◌≡◌, ◌-◌, get_or, true, None};
 ghost use Rattle.site_ids.specs.NodeSets.{with_node};
@@ -54,7 +54,7 @@ impl Delivered {
         }
     }
 
-    /// The node promised, or refused.
+    /// The node promised or refused something.
     fn note_answer(&mut self, from: NodeId)
         ensures { self.new ≡ record self.old { answered = with_node self.old.answered from } }
     {
@@ -93,7 +93,7 @@ impl Delivered {
         self.answered
     }
 
-    /// Of each node, node p at the place p - 1, the instance that its last question was for, if it asked.
+    /// The instance that each node's last question was for, if it asked: node p at index p - 1.
     pub fn questions(&self) -> &[Option<Instance>; 9]
         ensures { result.now ≡ self.now.questions }
     {

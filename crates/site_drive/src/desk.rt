@@ -1,7 +1,7 @@
 //! What turns and the calls after them work with.
 //!
-//! Room for turns is made once, a fifth of an idle node's cost; the buffer has a byte more than the longest
-//! spelling.
+//! Room for turns is made once, since it takes a fifth of what an idle node costs. The buffer has one byte
+//! more than the longest spelling.
 
 ghost use Rattle.std.specs.Prelude.{◌≡◌, ◌+◌, [], length, IfOk};
 ghost use Rattle.wire.specs.declared.TheConstants.{MAX_MESSAGE};
@@ -31,7 +31,7 @@ pub struct Desk {
 }
 
 impl Desk {
-    /// An empty desk, whose memory is allocated here. By its batches no file grows ahead.
+    /// An empty desk, whose memory is allocated here. Its batches let no file grow ahead.
     pub fn new(alloc: Global) -> Result<Desk, AllocError>
         ensures empty { IfOk result (λ desk. (desk.outbox.items ≡ []) × (desk.failed ≡ 0)) }
         ensures ahead { IfOk result (λ desk. desk.ahead ≡ record { size = 0; next = 0 }) }
@@ -49,7 +49,7 @@ impl Desk {
         })
     }
 
-    /// The same desk, by whose batches a record's file gets this many bytes of room ahead.
+    /// The same desk, but its batches give a record's file this many bytes of room ahead.
     pub fn with_room(mut self, size: u64) -> Desk
         ensures { result ≡ record self { ahead = record { size = size; next = 0 } } }
     {

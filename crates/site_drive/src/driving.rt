@@ -1,4 +1,4 @@
-//! Turns by themselves, and turns with calls after the last one.
+//! Turns without calls, and turns with calls after the last one.
 
 ghost use Rattle.std.specs.Prelude.{◌≡◌, ◌≤◌, [], ℕ, IfOk, IfErr, OnOk, OnErr};
 ghost use Rattle.node.specs.Standing.{CountsDevice, failures};

@@ -1,5 +1,5 @@
-//! What is called after the turns is an argument: one definition for the six. A batch has it too, so it is
-//! still here, though the loop that it came with is gone.
+//! The call after the turns is an argument, so one definition is enough for the six calls. Batches use it
+//! too.
 
 use site_ids::{Instance, NodeId};
 
@@ -12,7 +12,7 @@ pub enum LastCall {
     Widen,
     /// A question, whether a tick is wanted or not.
     Ask,
-    /// What is known and was voted for from an instance on is reported to a node again.
+    /// The node sends another one again what it knows and what it voted for, from an instance on.
     Tell { to: NodeId, first: Instance },
     /// What is known at `count` instances from the first one on is put on record as learned, if the record
     /// lacks it.

@@ -1,7 +1,7 @@
 //! What carries datagrams.
 //!
 //! A failed receive is a turn without a datagram. A failed send is ignored, and so is a message that fits no
-//! datagram: nodes hand out none.
+//! datagram: nodes hand out no such message.
 
 ghost use Rattle.std.specs.Prelude.{◌≡◌, ◌≤◌, ◌++◌, ◌∷◌, [], ℕ, List, length, take, IfOk, IfSome, IfNone};
 ghost use Rattle.std.specs.Prelude.{OnOk, OnErr};
@@ -27,8 +27,8 @@ pub trait Link {
 
     ghost failed: { Self → ℕ };
 
-    /// Receives one datagram, and gives as much of it as the slice holds. Returns how many bytes that is;
-    /// `None` if no datagram is there.
+    /// Receives one datagram, as much of it as the slice holds. Returns how many bytes that is; `None` if no
+    /// datagram is there.
     fn receive(&mut self, buf: &mut [u8]) -> Result<Option<usize>, LinkFailed>
         ensures bound { IfOk result (λ r. IfSome r (λ n. n ≤ length buf.new)) }
         ensures heard { IfOk result (λ r. IfSome r (λ n. (ds : List (List ℕ)) → received self.old ds

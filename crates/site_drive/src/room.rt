@@ -3,12 +3,12 @@
 ghost use Rattle.std.specs.Prelude.{◌≡◌, ◌↔◌, ◌+◌, ◌-◌, ◌/◌, ◌^◌, min, IsTrue};
 ghost use Rattle.site_drive.specs.Growing.{IsDue};
 
-/// How much room a file gets after its record, and when it gets that again. All are bytes.
+/// How much room a file gets after its record, and when it gets room again. All are bytes.
 #[derive(Clone, Copy, Debug, PartialEq, Eq, Drop)]
 pub struct Room {
     /// The room that it gets. At 0 it never grows ahead.
     pub size: u64,
-    /// From which length of the record on it may get that again.
+    /// From which length of the record on it may get room again.
     pub next: u64,
 }
 
@@ -28,8 +28,8 @@ impl Room {
         self.size > 0 && bytes >= self.next && (idle || bytes - self.next >= self.size / 4)
     }
 
-    /// The same after the file of a record of `bytes` bytes grew, or could not: a file without room is tried
-    /// again only when as much was recorded as fills half of the room.
+    /// The same after the file of a record of `bytes` bytes grew, or could not. A file without room is tried
+    /// again only after as much was recorded as half of the room.
     pub fn after(self, bytes: u64) -> Room
         ensures { result ≡ record self { next = min (bytes + self.size / 2) (2 ^ 64 - 1) } }
     {

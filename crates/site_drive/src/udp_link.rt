@@ -7,7 +7,7 @@ use site_ids::NodeId;
 use std::io::{self, ErrorKind};
 use std::net::{SocketAddr, UdpSocket};
 
-/// A socket, and the addresses of nodes 1 to n. Nothing is known of what it carries.
+/// A socket, and the addresses of nodes 1 to n. No clause says what it carries.
 #[derive(Drop)]
 pub struct UdpLink {
     socket: UdpSocket,

@@ -1,5 +1,5 @@
--- A batch of calls at one node, of which no other node hears before it is sealed: which run it is, at
--- whatever moment it is cut short.
+-- A batch of calls at one node, from which no other node hears before it is sealed: which run the batch is,
+-- at whatever moment it is cut short.
 use Rattle.std.specs.Prelude.{◌≡◌, ◌≢◌, ◌⊎◌, ℕ, Some, None, List, [], ◌∷◌, ◌++◌, slice_get, ⊤}
 use Rattle.site_ids.specs.Ids.{IsNode}
 use Rattle.site_ids.specs.Lists.{In}
@@ -39,7 +39,7 @@ AllEnd n p s (call ∷ calls) out next =
     × Ends n p s call ending first mid × AllEnd n p mid calls then next
     × (out ≡ first ++ then)
 
--- the call as an event of node p. A delivery names the place of its message among the messages sent. A
+-- the call as an event of node p. A delivery names the index of its message among the messages sent. A
 -- telling is one event, whoever it is for
 abbrev pub IsEventOf : ℕ → List Message → Call → Event → Type 0
 IsEventOf p sent (submit v) event = event ≡ Submit p v
@@ -204,7 +204,7 @@ OpenedOver stands_for = (disk : _) (d : DiskState) (code : Running _) (entries :
     → (n : ℕ) (w : World) (events : List Event) (p : ℕ) (out : List Message) → code.me ≡ p → code.cluster ≡ n
     → IsLeft n w events p out d.seen → CrashesAround n w events p out entries
 
--- ---- one of them
+-- ---- one batch
 
 -- Node 1 of three has asked for a promise. In a batch node 2 gives it and begins an attempt of its own: two
 -- entries, and two messages

@@ -1,5 +1,5 @@
--- Worked schedules of three nodes: what a node kept is reported again after all nodes lost power, and what it
--- did not keep is not.
+-- Worked schedules of three nodes that all lose power. What a node kept is told again, and what it did not
+-- keep is not.
 use Rattle.std.specs.Prelude.{◌≡◌, ℕ, ◌+◌, Bool, true, false, if◌then◌else◌, None, Some, List, [], ◌∷◌, ◌++◌}
 use Rattle.site_ids.specs.Ids.{BallotOf}
 use Rattle.durable.specs.Entries.{Promised, Voted, Learned}

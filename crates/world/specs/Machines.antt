@@ -34,7 +34,7 @@ abbrev pub Settled : Mode → Node → Handed → Node → Type 0
 Settled mode s out next = (entries : List Entry) × Settles s.entries s.in_flight entries × (out ≡ [])
     × (next ≡ opened mode entries None)
 
--- what the event does at its node, p of n. Whether a floor is allowed is asked of the world
+-- what the event does at its node, p of n. Whether a floor is allowed depends on the world
 abbrev pub NodeTakes : ℕ → ℕ → List Message → Node → Event → Handed → Node → Type 0
 NodeTakes n p sent s (Submit q v) out next = AtNode n p s (submit v) out next
 NodeTakes n p sent s (Tick q) out next = AtNode n p s tick out next

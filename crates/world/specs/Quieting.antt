@@ -1,4 +1,4 @@
--- That a quiet stretch decides.
+-- A quiet stretch decides.
 use Rattle.std.specs.Prelude.{◌≡◌, ◌++◌, ℕ, Some, None, Result, Ok, Err, List, take, slice_get, ⊤}
 use Rattle.site_ids.specs.Ids.{IsNode}
 use Rattle.durable.specs.Entries.{last_vote}

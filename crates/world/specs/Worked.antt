@@ -112,7 +112,7 @@ gap a b c =
     (bring_through 0 ++ (bring_through 6
     ++ (bring_through 12 ++ (Deliver 3 4 ∷ Deliver 3 5 ∷ Deliver 3 16 ∷ Deliver 3 17 ∷ []))))
 
--- and then those at instance 2
+-- and then the votes at instance 2
 abbrev pub gap_closes : List Event
 gap_closes = Deliver 3 10 ∷ Deliver 3 11 ∷ []
 

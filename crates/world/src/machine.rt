@@ -14,12 +14,12 @@ use site_ids::{Ballot, Cluster, Instance, MAX_ROUND, NodeId, Value};
 use std::alloc::{AllocError, Global};
 use std::mem;
 
-/// The greatest round above which two are left.
+/// The greatest round after which two rounds are left.
 const LAST_QUIET_ROUND: u32 = MAX_ROUND - 2;
 
 #[derive(Drop)]
 pub(crate) enum Machine {
-    /// The node runs, or its device has stopped it. Armed: the disk is set to fail.
+    /// The node runs, or its device has stopped it. `armed` says that the disk is set to fail.
     Open { node: Node<MemDisk>, armed: bool },
     /// The node is down: only its disk is left.
     Bare(MemDisk),
@@ -136,7 +136,7 @@ impl Machine {
         }
     }
 
-    /// Delivers a message that was handed out. One that is not of the cluster's nodes is ignored.
+    /// Delivers a message that was handed out. A message that is not of the cluster's nodes is ignored.
     pub(crate) fn deliver(&mut self, index: usize, sent: &mut Outbox) -> Result<(), AllocError>
         requires { index < length sent.old.items }
         ensures ok { OnOk result ((message : AbstractMessage)
@@ -276,14 +276,14 @@ impl Machine {
         mem::replace(self, Machine::Bare(MemDisk::new(alloc))).close()
     }
 
-    /// Puts the machine in the place of the old one. Only here is an old machine dropped.
+    /// Puts the machine in the place of the old one. Only this function drops an old machine.
     fn put(&mut self, machine: Machine)
         ensures { self.new ≡ machine }
     {
         drop(mem::replace(self, machine));
     }
 
-    /// The node is down, and its disk has lost what was not synced, by the choice.
+    /// The node is down. `choice` says what of the unsynced bytes its disk has lost.
     pub(crate) fn crash(&mut self, alloc: Global, choice: u8)
         ensures { (n p : ℕ) → Turns n p (λ s out next. Settled Down s out next) self.old self.new [] [] }
     {
@@ -320,7 +320,7 @@ impl Machine {
         }
     }
 
-    /// The node is lost with its disk: it is down, over a new disk with a record of that floor only.
+    /// The node is lost with its disk: it is down, over a new disk whose record has only that floor.
     pub(crate) fn replace(
         &mut self,
         alloc: Global,

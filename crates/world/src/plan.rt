@@ -46,8 +46,8 @@ fn push_each_to(
     Ok(())
 }
 
-// An attempt of a node: how many messages were handed out before it, and how many its tick sends again, are
-// given.
+// An attempt of a node. It is given how many messages were handed out before the attempt, and how many its
+// tick sends again.
 fn push_attempt_at(
     events: &mut Vec<Event>,
     cluster: Cluster,
@@ -68,8 +68,8 @@ fn push_attempt_at(
     push_each_to(events, me, proposal + 1, quorum)
 }
 
-/// An attempt of a node, after the messages that were handed out. How many messages its tick sends again is
-/// given.
+/// An attempt of a node, after the messages that were handed out. It is given how many messages its tick
+/// sends again.
 pub(crate) fn push_attempt(
     events: &mut Vec<Event>,
     cluster: Cluster,

@@ -1,7 +1,7 @@
 //! What a world reports of its nodes and messages.
 //!
-//! A query is about a node of the cluster. All other nodes are as at the start, so "down" would be false of
-//! them.
+//! A query is about a node of the cluster. All other nodes are as at the start, so the answer "down" would be
+//! false for them.
 
 ghost use Rattle.std.specs.Prelude.{◌≡◌, ◌≢◌, ◌≤◌, ◌<◌, ◌⊎◌, ◌↔◌, ◌-◌, List, Some, length, slice_get};
 ghost use Rattle.std.specs.Prelude.{option_copied, IfOk, IsErrOf};
@@ -32,7 +32,7 @@ impl World {
         self.cluster
     }
 
-    /// The message at a place of all that were ever handed out, from 0.
+    /// The message at an index of all that were ever handed out, from 0.
     pub fn sent(&self, index: usize) -> Option<&Message>
         ensures { option_copied result ≡ slice_get (messages_of self.now.sent.items) index }
     {

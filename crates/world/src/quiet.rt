@@ -40,7 +40,7 @@ impl World {
     }
 
     /// Events by which the node learns its first unknown instance, from a quiet state: two ticks and 8 n
-    /// deliveries at most. From any other state there are none.
+    /// deliveries at most. From any other state there are no events.
     ///
     /// This holds whatever was promised, voted for or attempted, and whatever is on its way. The plan is a
     /// tick, and its messages to the first nodes that make a majority and back. If one of these nodes has
@@ -140,7 +140,7 @@ impl World {
     }
 
     // The node that refuses this node's next attempt, if one of the first nodes that make a majority does:
-    // the one with the highest promise of all.
+    // the one with the highest promise.
     fn refuser(&self, node: NodeId, instance: Instance) -> Option<NodeId>
         requires { node ≤ self.now.cluster }
         ensures { (w : AbstractWorld) → IsWorldOf self.now w → IsQuiet self.now.cluster w node

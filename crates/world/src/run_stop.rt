@@ -4,6 +4,6 @@ pub(crate) enum RunStop {
     Wanted,
     /// The event is taken, but an allocation failed as its node published.
     Unpublished,
-    /// It names no node of the cluster or no message, or its floor is not allowed.
+    /// The event names no node of the cluster or no message, or its floor is not allowed.
     Bad,
 }
