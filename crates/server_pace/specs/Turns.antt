@@ -5,7 +5,7 @@ use Rattle.site_drive.specs.declared.last_call.LastCall.TheVariants.{TickOrAsk, 
 use Rattle.site_drive.specs.declared.last_call.LastCall.TheVariants.{Nothing}
 use Rattle.server_pace.specs.declared.due.Due.{Due}
 
--- a question goes before a telling
+-- the telling, if one is due; otherwise that call
 abbrev pub telling_or : Option (ℕ × ℕ) → LastCall → LastCall
 telling_or None last = last
 telling_or (Some x) last = Tell x.0 x.1

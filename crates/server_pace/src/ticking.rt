@@ -64,8 +64,8 @@ impl Ticking {
         }
     }
 
-    /// Whether the server leaves the decision to the others: it has no stake, a message of an attempt came
-    /// (`stirred`), and it has not done so for too long.
+    /// Whether the server leaves the decision to the others: it has no stake, a message that is no question
+    /// came (`stirred`), and it has not done so for too long.
     fn leaves(self, times: Times, now: u64, seen: Seen, stirred: bool) -> bool
         ensures { result ≡ leaves self times now seen stirred }
     {
@@ -73,9 +73,9 @@ impl Ticking {
         !seen.stake && (stirred && now.saturating_sub(first) < times.leaving)
     }
 
-    /// The ticking now that this is seen. `stirred` says that messages of attempts came since the last time.
-    /// The patience begins anew with news, and while the decision is left to others. Ticks in vain are
-    /// forgotten if news came without a tick that was due.
+    /// The ticking now that this is seen. `stirred` says that messages which are no questions came since the
+    /// last time. The patience begins anew with news, and while the decision is left to others. Ticks in vain
+    /// are forgotten if news came without a tick that was due.
     pub fn noted(self, times: Times, now: u64, seen: Seen, stirred: bool) -> Ticking
         ensures { result ≡ noted self times now seen stirred }
     {
