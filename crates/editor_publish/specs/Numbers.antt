@@ -6,7 +6,7 @@ abbrev pub follows : Option ℕ → ℕ → Bool
 follows None release = false
 follows (Some before) release = release - before == 1
 
--- the newest release is the folder's if it is the only one since the folder's last release. It is also if it
--- is the only one since the folder's was sent, unless an interrupted run may have made that one before
+-- the newest release is the folder's if it is the only one since the folder's last release; or the only one
+-- since the folder's release was sent, unless an interrupted run may have made that before
 abbrev pub is_exact : Bool → Option ℕ → ℕ → ℕ → Bool
 is_exact begun before shown release = release - shown == 1 || (not begun && follows before release)

@@ -1,6 +1,7 @@
 //! What a publication changes, and whether its release shows the folder.
 //!
-//! Each page of the folder is compared with the release, and each path where it has nothing any more.
+//! Each page of the folder is compared with the release, and each path at which the folder no longer has
+//! anything.
 ghost use Rattle.std.specs.Prelude.{◌≡◌};
 ghost use Rattle.editor_publish.specs.Comparing.{is_compared, shows};
 
@@ -16,7 +17,7 @@ use std::collections::BTreeSet;
 use std::io::Write;
 use std::net::{Net, TcpStream};
 
-/// What a node answers for a path where nothing is.
+/// What a node answers for a path that has nothing.
 const NOTHING: u16 = 404;
 
 /// A page that changes: the status shown before, as far as the ledger knows, and the view shown after.
@@ -38,7 +39,7 @@ impl Change {
     }
 }
 
-/// The status of a page that another editor put, as far as a change tells it: something is there.
+/// The status of a page that another editor put, as far as a change shows it: something is there.
 const THERE: u16 = 200;
 
 /// Adds the paths that texts are about.

@@ -99,7 +99,7 @@ impl<R: Files + Net<Stream = TcpStream> + Clock + AllocGlobal, E: Write> Publish
         }
     }
 
-    /// Adds a release that was made to the log. The ledger is not saved.
+    /// Adds to the log that a release was made. The ledger is not saved.
     fn note(&mut self, made: Made) -> Result<(), EditorFault> {
         let time = seconds(self.rt)?;
         self.ledger.note(Released {

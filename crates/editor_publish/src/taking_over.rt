@@ -34,7 +34,7 @@ use std::net::{Net, TcpStream};
 #[derive(Drop)]
 pub(crate) struct Taken {
     pub release: u64,
-    /// Paths that become the folder's, or that it removes, though others put what is there.
+    /// Paths that become the folder's, or that it removes, although others put what is there.
     pub paths: Vec<String>,
     /// Texts of the folder that are put again, whatever its ledger says.
     pub again: Vec<String>,
