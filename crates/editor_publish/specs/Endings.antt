@@ -7,7 +7,7 @@ use Rattle.editor_publish.specs.declared.ending.Ending.TheVariants.{Well, Bad, W
 use Rattle.editor_publish.specs.declared.ending.Shown.{Shown}
 use Rattle.editor_publish.specs.declared.ending.Shown.TheVariants.{Whole, NotWhole}
 
--- 1 is a fault, and 2 a command line that is none
+-- 1 is a fault, and 2 would be an invalid command line
 abbrev pub status_of : Ending → ℕ
 status_of Well = 0
 status_of Bad = 1
@@ -21,7 +21,7 @@ abbrev pub ending_of : Shown → Ending
 ending_of Whole = Well
 ending_of NotWhole = Bad
 
--- a dry run ends as a publication does, but if something would be sent and its status is to say so
+-- a dry run ends as a publication does, except if something would be sent and its status is to say so
 abbrev pub dry_ending : Found → Bool → Ending
 dry_ending found tells = if found.sends && tells then WouldSend else ending_of found.shown
 
@@ -34,6 +34,7 @@ MayEnd dry_run tells WouldSend = (dry_run ≡ true) × (tells ≡ true)
 abbrev pub IsStatus : Bool → Bool → ℕ → Type 0
 IsStatus dry_run tells status = (ending : Ending) × MayEnd dry_run tells ending × (status ≡ status_of ending)
 
--- how many commands the release of a ticket shows that none showed before: the tickets since the last release
+-- how many commands the release of a ticket shows that no release showed before: the tickets between the last
+-- release and this one
 abbrev pub commands_of : ℕ → Book → ℕ
 commands_of ticket book = ticket - book.last_release - 1

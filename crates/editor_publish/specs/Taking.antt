@@ -18,20 +18,20 @@ shows_some answer (Some view) = shows answer view
 abbrev pub is_own : NodeAnswer → ℕ → List (Vec View Global) → Bool
 is_own answer place states = list_any (λ views. shows_some answer (slice_get views.items place)) states
 
--- some state has it so, and the first one, which is that of the folder's last release, has not
+-- some state shows it so, and the first one, that of the folder's last release, does not
 abbrev pub is_fresh : NodeAnswer → ℕ → List (Vec View Global) → Bool
 is_fresh answer place [] = false
 is_fresh answer place (released ∷ since) =
     is_own answer place (released ∷ since) && not (shows_some answer (slice_get released.items place))
 
--- a path is taken over; or is not the folder's own, be it that nothing is there any more; or shows what the
+-- a path is taken over; or is not the folder's own, even if nothing is there any more; or shows what the
 -- folder has put since its last release
 abbrev pub has : Which → NodeAnswer → ℕ → List (Vec View Global) → Bool
 has Taken answer place states = unwrap_or (is_taken answer.status (is_own answer place states)) false
 has Others answer place states = not (is_own answer place states)
 has Fresh answer place states = is_fresh answer place states
 
--- those of the paths, the first of which has that place
+-- those of the paths, of which the first has that place
 abbrev pub those_of : Which → List (Vec View Global) → ℕ → List (List ℕ) → List NodeAnswer → List (List ℕ)
 those_of which states place [] answers = []
 those_of which states place (path ∷ paths) [] = []

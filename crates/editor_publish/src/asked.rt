@@ -1,9 +1,9 @@
-//! Paths that a publication asks a group for: which of them are another's.
+//! Which of the paths that a publication asks a group for are another editor's.
 //!
-//! They are asked for before anything is sent. Another editor may put something at one of the paths at the
-//! same moment: so they are asked for again once the folder's commands are in the log, before they are
-//! released. The other editor's release may show a part of these commands, as they came into the log one
-//! after another.
+//! The publication asks for them before it sends anything. Another editor may put something at one of the
+//! paths at the same moment. So the publication asks again once the folder's commands are in the log, before
+//! it releases them. The other editor's release may show a part of these commands, since they came into the
+//! log one after another.
 ghost use Rattle.std.specs.Prelude.{◌≡◌, map, slice_get, true, Some, IfOk, string_bytes};
 ghost use Rattle.editor_plan.specs.Takings.{is_of_page};
 ghost use Rattle.editor_publish.specs.Taking.{shows_some, is_own, is_fresh, has, those_of};
@@ -69,8 +69,8 @@ fn is_own(answer: &NodeAnswer, states: &[Vec<View>], place: usize) -> bool
         .any(|views| shows_at(answer, views.as_slice(), place))
 }
 
-/// Whether a later one of the folder's states than the first shows what was answered at that place, and the
-/// first does not.
+/// Whether one of the folder's states after the first shows what was answered at that place, and the first
+/// does not.
 fn is_fresh(answer: &NodeAnswer, states: &[Vec<View>], place: usize) -> bool
     ensures { result ≡ is_fresh answer.now place states.now }
 {
@@ -82,12 +82,12 @@ fn is_fresh(answer: &NodeAnswer, states: &[Vec<View>], place: usize) -> bool
     }
 }
 
-/// A path that no node answered.
+/// The fault of a path that no node answered.
 fn unanswered(alloc: Global, url: &str, path: &str) -> Result<EditorFault, AllocError> {
     Ok(EditorFault::Stop(format!(in alloc; "{url}{path}: was not answered")?))
 }
 
-/// The answer for a path; a fault if there is none, or none that a node gives.
+/// The answer for a path. It is a fault if there is none, or if its status is one that no node gives.
 fn page_answer<'a>(
     alloc: Global,
     url: &str,
@@ -107,7 +107,7 @@ fn page_answer<'a>(
 enum Which {
     /// Those that others took over.
     Taken,
-    /// Those that are not shown as the folder's, be it that nothing is there any more.
+    /// Those that are not shown as the folder's, even if nothing is there any more.
     Others,
     /// Those that are shown as what the folder has put since its last release.
     Fresh,
@@ -127,7 +127,7 @@ impl Which {
     }
 }
 
-/// Those of the paths, by a node's answers, if the folder's own texts show these views.
+/// Those of the paths that `which` names, by a node's answers and the views of the folder's states.
 fn those_of(
     alloc: Global,
     url: &str,
@@ -149,8 +149,8 @@ fn those_of(
     Ok(those)
 }
 
-/// Those of the paths that a node's answers show as none of the folder's states has them, but as it has them
-/// while its commands come into the log.
+/// Those of the paths that a node's answers show as no state of the folder has them, but as the folder has
+/// them while its commands come into the log.
 fn parts_of(
     alloc: Global,
     paths: &[String],
@@ -184,7 +184,7 @@ pub(crate) fn apart(
     Ok(others)
 }
 
-/// Compares paths with a node's release, if the folder may have these texts.
+/// Compares paths with a node's release. The folder may have the texts of `own`.
 pub(crate) fn compare<N: Net<Stream = TcpStream>>(
     net: &N,
     alloc: Global,
@@ -214,9 +214,9 @@ pub(crate) fn compare<N: Net<Stream = TcpStream>>(
 }
 
 impl Asked {
-    /// Those of the paths that were another's in one of the releases since those that were asked for them, up
-    /// to this one, after this plan: a release of a third editor may show the folder's commands in their
-    /// place again.
+    /// Those of the paths that were another editor's in one of the releases after `self.release`, up to
+    /// `newest`, once `plan` was sent. It asks each of these releases, since a release of a third editor may
+    /// show the folder's commands in the other's place again.
     pub(crate) fn taken_by<N: Net<Stream = TcpStream>>(
         &self,
         net: &N,

@@ -1,6 +1,7 @@
 //! What a publication changes, and whether its release shows the folder.
 //!
-//! Each page of the folder is compared with the release, and each path where it has nothing any more.
+//! Each page of the folder is compared with the release, and each path at which the folder no longer has
+//! anything.
 ghost use Rattle.std.specs.Prelude.{◌≡◌};
 ghost use Rattle.editor_publish.specs.Comparing.{is_compared, shows};
 
@@ -16,10 +17,10 @@ use std::collections::BTreeSet;
 use std::io::Write;
 use std::net::{Net, TcpStream};
 
-/// What a node answers for a path where nothing is.
+/// What a node answers for a path that has nothing.
 const NOTHING: u16 = 404;
 
-/// A page that changes: what was shown before, as far as the ledger knows, and what is shown then.
+/// A page that changes: the status shown before, as far as the ledger knows, and the view shown after.
 #[derive(Drop)]
 pub(crate) struct Change {
     pub before: u16,
@@ -38,7 +39,7 @@ impl Change {
     }
 }
 
-/// The status of a page that another editor put, as far as a change tells it: something is there.
+/// The status of a page that another editor put, as far as a change shows it: something is there.
 const THERE: u16 = 200;
 
 /// Adds the paths that texts are about.
@@ -55,7 +56,7 @@ pub(crate) fn add_paths(
     Ok(())
 }
 
-/// The paths that either texts are about, each once.
+/// The paths that the texts or the others are about, each once.
 fn paths_of(alloc: Global, texts: &[&str], others: &[&str]) -> Result<Vec<String>, AllocError> {
     let mut paths = BTreeSet::new(alloc);
     add_paths(alloc, &mut paths, texts)?;
@@ -89,16 +90,16 @@ pub(crate) fn changes_of(
     differing(alloc, &olds, news)
 }
 
-/// Whether a release is compared with the view of a path: the publication has a text about it, or leaves it
-/// to another editor.
+/// Whether a release is compared with the view of a path. If `touched`, the publication has a text about the
+/// path; if `left`, it leaves the path to another editor.
 fn is_compared(status: u16, touched: bool, left: bool) -> bool
     ensures { result ≡ is_compared status touched left }
 {
     (status != NOTHING || touched) && !left
 }
 
-/// What the release of a publication has to show of these texts, of which it touches some, or speaks of all,
-/// and leaves some paths to another editor.
+/// What the release of a publication of these texts has to show. The texts of `touched` are about what it
+/// changes; if `all`, every path counts as changed. The paths of `left` are left to another editor.
 pub(crate) fn expected(
     alloc: Global,
     wanted: &[&str],
@@ -119,7 +120,8 @@ pub(crate) fn expected(
     Ok(views)
 }
 
-/// The same changes but for the pages that are left to another editor, and the pages that are taken over.
+/// The same changes without the pages that are left to another editor, and with the pages that are taken
+/// over.
 pub(crate) fn with_taken(
     alloc: Global,
     changes: Vec<Change>,
@@ -165,12 +167,12 @@ fn is_shown(answer: Option<&NodeAnswer>, view: &View) -> bool {
     answer.is_some_and(|answer| shows(answer, view))
 }
 
-/// Whether a node answered, and nothing that stands before it.
+/// Whether a node answered, and not a proxy before it.
 fn is_answered(answer: Option<&NodeAnswer>) -> bool {
     answer.is_some_and(|answer| is_of_page(answer.status))
 }
 
-/// Tells that a page is not shown.
+/// Reports that a page is not shown, and why.
 fn tell_difference<E: Write>(
     alloc: Global,
     err: &mut E,
@@ -187,10 +189,10 @@ fn tell_difference<E: Write>(
     Ok(say_made(err, format!(in alloc; "{url}/@{release}{path}: {why}"))?)
 }
 
-/// So many pages or paths are reported one by one, and then how many more there are.
+/// How many pages or paths are reported one by one. After them comes how many more there are.
 pub(crate) const TOLD: usize = 10;
 
-/// Tells how many pages more are not shown than were told.
+/// Reports how many more pages are not shown than were reported one by one.
 fn tell_more<E: Write>(
     alloc: Global,
     err: &mut E,
@@ -208,7 +210,7 @@ fn tell_more<E: Write>(
     )?)
 }
 
-/// Tells once why pages may be shown otherwise, with their number, and what to do.
+/// Says once why pages may be shown differently, how many there are, and what to do.
 fn tell_why<E: Write>(alloc: Global, err: &mut E, otherwise: usize) -> Result<(), EditorFault> {
     if otherwise == 0 {
         return Ok(());
@@ -223,8 +225,8 @@ fn tell_why<E: Write>(alloc: Global, err: &mut E, otherwise: usize) -> Result<()
     )?)
 }
 
-/// Tells each page that was not answered as it is wanted, and once why that may be. Their paths are the
-/// answer.
+/// Reports each page whose answer is not the wanted one, and says once why that may be. It returns their
+/// paths.
 fn tell_all<E: Write>(
     alloc: Global,
     err: &mut E,
@@ -266,7 +268,7 @@ pub(crate) fn pages_at<N: Net<Stream = TcpStream>>(
     ask(net, alloc, node, &questions)
 }
 
-/// Tells each page of a release that is not this view of it. Their paths are the answer.
+/// Reports each page of a release that differs from its view, and returns their paths.
 pub(crate) fn tell_differences<N: Net<Stream = TcpStream>, E: Write>(
     net: &N,
     alloc: Global,

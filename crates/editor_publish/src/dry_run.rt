@@ -53,7 +53,7 @@ fn heads_value(alloc: Global, sent: &[Sent]) -> Result<Value, AllocError> {
     Ok(Value::Array(heads))
 }
 
-/// Takes what is on its way as received.
+/// Treats what is on its way as received.
 fn settle(ledger: &mut Ledger) -> Result<(), AllocError> {
     for _ in 0..ledger.sent().len() {
         if let Some(sent) = ledger.sent().first() {
@@ -64,7 +64,7 @@ fn settle(ledger: &mut Ledger) -> Result<(), AllocError> {
     Ok(())
 }
 
-/// Tells what is on its way already.
+/// Prints what is already on its way.
 fn tell_sent<W: Write>(alloc: Global, out: &mut W, sent: &[Sent]) -> Result<(), EditorFault> {
     for sent in sent {
         let head = head_of(sent.text.as_str());
@@ -73,7 +73,7 @@ fn tell_sent<W: Write>(alloc: Global, out: &mut W, sent: &[Sent]) -> Result<(), 
     Ok(())
 }
 
-/// What becomes of a page.
+/// What happens to a page.
 fn change_name(change: &Change) -> &'static str {
     if change.is_new() {
         "is new"
@@ -100,7 +100,7 @@ fn pages_value(alloc: Global, changes: &[Change]) -> Result<Value, AllocError> {
     Ok(Value::Array(pages))
 }
 
-/// Tells what is planned, and which pages change by it.
+/// Prints what is planned, and which pages change by it.
 fn tell_planned<W: Write>(
     alloc: Global,
     out: &mut W,
@@ -119,7 +119,7 @@ fn tell_planned<W: Write>(
     Ok(())
 }
 
-/// The texts of the folder's last release, if something was sent since: its readers see pages of these.
+/// The texts of the folder's last release, if something was sent since. Readers see the pages of these texts.
 fn released_texts(alloc: Global, ledger: &Ledger) -> Result<Option<Vec<String>>, AllocError> {
     let last = ledger.last_release();
     if ledger.has_unshown() && ledger.reaches(last) {
@@ -129,8 +129,8 @@ fn released_texts(alloc: Global, ledger: &Ledger) -> Result<Option<Vec<String>>,
     }
 }
 
-/// The pages that change if a ledger with nothing on its way becomes these texts: since the last release, if
-/// something was sent after it.
+/// The pages that change if a ledger with nothing on its way becomes the wanted texts. If something was sent
+/// after the last release, they are compared with that release.
 fn changes_by(
     alloc: Global,
     ledger: &Ledger,
@@ -148,7 +148,7 @@ fn changes_by(
     }
 }
 
-/// The texts that stay though the folder has them no more, and those that are put again.
+/// The texts that stay although the folder no longer has them, and those that are put again.
 fn kept_and_again(taken: Option<&Taken>) -> (&[String], &[String]) {
     match taken {
         Some(taken) => (taken.stays.as_slice(), taken.again.as_slice()),
@@ -156,8 +156,8 @@ fn kept_and_again(taken: Option<&Taken>) -> (&[String], &[String]) {
     }
 }
 
-/// Tells what would be put and removed of a ledger with nothing on its way, and which pages change. Whether
-/// anything would be is the answer.
+/// Prints what would be put and removed by a ledger with nothing on its way, and which pages change. It
+/// returns whether anything would be sent.
 fn tell_next<W: Write>(
     alloc: Global,
     out: &mut W,
@@ -184,8 +184,8 @@ fn tell_next<W: Write>(
     Ok(stage == Stage::Sends)
 }
 
-/// Tells what would be put and removed, and which pages change, by what is taken over. Nothing is asked, sent
-/// or saved. Whether anything would be sent is the answer.
+/// Prints what would be put and removed, and which pages change, if `taken` is taken over. It asks, sends and
+/// saves nothing. It returns whether anything would be sent.
 pub(crate) fn tell_plan<W: Write>(
     alloc: Global,
     out: &mut W,

@@ -28,7 +28,7 @@ impl Shown {
 /// How a publication ends.
 #[derive(Clone, Copy, Debug, Drop, PartialEq, Eq)]
 pub(crate) enum Ending {
-    /// What was wanted is shown; or a dry run told what it had to.
+    /// What was wanted is shown, or a dry run printed what it had to.
     Well,
     /// The folder has a fault, or is not shown.
     Bad,
@@ -37,7 +37,7 @@ pub(crate) enum Ending {
 }
 
 impl Ending {
-    /// That of a publication.
+    /// The ending of a publication.
     pub(crate) fn of(shown: Shown) -> Ending
         ensures { result ≡ ending_of shown }
     {
@@ -47,7 +47,7 @@ impl Ending {
         }
     }
 
-    /// That of a dry run, and whether its status says that something would be sent.
+    /// The ending of a dry run. If `tells`, its status says whether something would be sent.
     pub(crate) fn of_dry_run(found: Found, tells: bool) -> Ending
         ensures { result ≡ dry_ending found tells }
     {

@@ -9,8 +9,9 @@ use serde_json::{Value, json};
 use std::alloc::{AllocError, Global};
 use std::io::Write;
 
-/// A release that was made: its number, or one above it if others released as well; whether an interrupted
-/// run had begun it; and how many commands it shows that none showed before.
+/// A release that was made. Its number is `release`, or possibly a lower one if it is not `exact`, since
+/// others released as well. If `begun`, an interrupted run had begun it. It shows `commands` commands that no
+/// release showed before.
 #[derive(Clone, Copy)]
 pub(crate) struct Made {
     pub release: u64,
@@ -19,16 +20,16 @@ pub(crate) struct Made {
     pub commands: u64,
 }
 
-/// Whether one release came after that one.
+/// Whether `release` comes right after `before`.
 fn is_next(before: u64, release: u64) -> bool
     ensures { result ≡ (release - before == 1) }
 {
     release.saturating_sub(before) == 1
 }
 
-/// Whether the newest release, once one has its receipt, is that one. The newest before it was sent is that,
-/// if the node told it, and this was the folder's own last one. If an interrupted run had begun it, it may
-/// have been made before.
+/// Whether the newest release, `release`, is the one that was sent and has its receipt. Before it was sent,
+/// the newest one was `before`, if the node reported it, and the folder's own last one was `shown`. If an
+/// interrupted run had begun the release, it may have been made before that.
 pub(crate) fn is_exact(begun: bool, before: Option<u64>, shown: u64, release: u64) -> bool
     ensures { result ≡ is_exact begun before shown release }
 {
@@ -40,7 +41,7 @@ pub(crate) fn is_exact(begun: bool, before: Option<u64>, shown: u64, release: u6
             }
 }
 
-/// The ticket of the release that is on its way, if it is one.
+/// The ticket of the release that is on its way, if one is.
 pub(crate) fn release_ticket(ledger: &Ledger) -> Option<u64> {
     match ledger.sent() {
         [sent] if sent.text.as_str() == "release\n" => Some(sent.number),
@@ -48,7 +49,7 @@ pub(crate) fn release_ticket(ledger: &Ledger) -> Option<u64> {
     }
 }
 
-/// How many commands the release of a ticket shows that none showed before.
+/// How many commands the release of a ticket shows that no release showed before.
 pub(crate) fn commands_of(ledger: &Ledger, ticket: u64) -> u64
     ensures { result ≡ commands_of ticket ledger.now }
 {
@@ -57,12 +58,12 @@ pub(crate) fn commands_of(ledger: &Ledger, ticket: u64) -> u64
         .saturating_sub(1)
 }
 
-/// Why nothing goes on at a node that does not tell its newest release.
+/// Why a publication stops at a node that does not report its newest release.
 pub(crate) fn untold(alloc: Global, url: &str) -> Result<EditorFault, AllocError> {
     Ok(EditorFault::Stop(format!(in alloc; "{url}: does not tell its newest release")?))
 }
 
-/// Why nothing goes on at a node that made a release and does not tell its number.
+/// Why a publication stops at a node that made a release and does not report its number.
 pub(crate) fn unnumbered(alloc: Global, url: &str) -> Result<EditorFault, AllocError> {
     Ok(EditorFault::Stop(format!(in alloc;
         "{url}: does not tell the number of the release that was made: run it again, and it stands in the log"

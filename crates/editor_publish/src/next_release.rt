@@ -39,7 +39,7 @@ impl Texts {
     }
 }
 
-/// Why a ledger is not that of the editor who is named.
+/// Why a ledger is refused that belongs to another editor than the one who is named.
 fn belongs(alloc: Global, folder: &str, editor: u32) -> Result<EditorFault, AllocError> {
     Ok(EditorFault::Stop(format!(in alloc; "{folder}/published: belongs to editor {editor}")?))
 }
@@ -87,7 +87,7 @@ fn ledger_there<R: Files + RandomSource + AllocGlobal>(
     Ok(ledger)
 }
 
-/// Tells that a folder has no page.
+/// Reports that a folder has no page.
 fn tell_no_page<E: Write>(alloc: Global, err: &mut E, folder: &str) -> Result<(), EditorFault> {
     Ok(say_made(
         err,
@@ -105,7 +105,8 @@ fn keep_findings(alloc: Global, outcome: &mut Outcome, read: &Read) -> Result<()
 }
 
 impl NextRelease {
-    /// The folder's files, if they have no fault and a page. Otherwise it reports why they can be no release.
+    /// The folder's files, if they have no fault and at least one page. Otherwise it reports why they cannot
+    /// be a release.
     fn of_files<R: Files + RandomSource + AllocGlobal + Clone + Drop, E: Write>(
         rt: &R,
         err: &mut E,

@@ -5,8 +5,8 @@ use editor_folder::{View, views_of};
 use std::alloc::{AllocError, Global};
 use std::collections::BTreeSet;
 
-/// A folder's texts as releases may have them: those of one of its states (`states_of` in `editor_plan`), or
-/// also the first ones of a plan, which come into the log one after another.
+/// A folder's texts as releases may have them: those of one of its states (`states_of` in `editor_plan`),
+/// possibly with the first texts of a plan, which come into the log one after another.
 #[derive(Clone, Copy)]
 pub(crate) struct OwnTexts<'a> {
     pub states: &'a [Vec<String>],
@@ -27,8 +27,8 @@ impl OwnTexts<'_> {
         Ok(views)
     }
 
-    /// What is shown at a path once the first texts of the plan are in the log, one, two, and so on, up to
-    /// all: from each of the states on.
+    /// What each of the states shows at a path after one text of the plan has come into the log, after two,
+    /// and so on, up to all of them.
     pub(crate) fn views_between(
         self,
         alloc: Global,
@@ -55,7 +55,7 @@ impl OwnTexts<'_> {
     }
 }
 
-/// The texts that the last of these states has, and the first one has not: in the order in which they came,
+/// The texts of the last of these states that the first one does not have, in the order in which they came,
 /// or will come, into the log.
 pub(crate) fn texts_since(alloc: Global, states: &[Vec<String>]) -> Result<Vec<&str>, AllocError> {
     let mut since = Vec::new(alloc);

@@ -24,8 +24,8 @@ use std::net::{Net, TcpStream};
 use std::rt::{Clock, Files};
 use std::time::{SystemTime, UNIX_EPOCH};
 
-/// A publication under way: the group that it goes to, and the ledger that it is kept in, which is saved as
-/// it changes. It writes causes to `err`, and keeps in its outcome what it came to.
+/// A publication under way: the group that it goes to, and the ledger that records it, which is saved as it
+/// changes. It reports to `err`, and keeps its results in `outcome`.
 #[derive(Drop)]
 pub(crate) struct Publisher<'a, R, E> {
     pub rt: &'a R,
@@ -53,7 +53,7 @@ impl<R: Files + Net<Stream = TcpStream> + Clock + AllocGlobal, E: Write> Publish
         Ok(())
     }
 
-    /// Sends what is on its way, and saves what came of it, also where it came to no end.
+    /// Sends what is on its way, and saves what came of it, even if sending failed.
     fn send(&mut self) -> Result<(), EditorFault> {
         let patience = self.how.patience;
         let mut saved = save(self.rt, self.how.folder, self.ledger)?;
@@ -62,7 +62,7 @@ impl<R: Files + Net<Stream = TcpStream> + Clock + AllocGlobal, E: Write> Publish
         self.save_sent().and(sent)
     }
 
-    /// Saves what came of sending. Where that fails, it says what the group may have.
+    /// Saves what came of sending. If that fails, it says what the group may have.
     fn save_sent(&mut self) -> Result<(), EditorFault> {
         let saved = self.save();
         if saved.is_err() {
@@ -78,12 +78,12 @@ impl<R: Files + Net<Stream = TcpStream> + Clock + AllocGlobal, E: Write> Publish
         saved
     }
 
-    /// The newest release, if the node that is spoken to tells it.
+    /// The newest release, if the node in use reports it.
     fn newest_told(&self) -> Result<Option<u64>, EditorFault> {
         Ok(newest(self.rt, self.rt.alloc(), self.group.node()?)?)
     }
 
-    /// The newest release of the node that is spoken to.
+    /// The newest release of the node in use. It is a fault if the node does not report it.
     fn newest(&self) -> Result<u64, EditorFault> {
         match self.newest_told()? {
             Some(release) => Ok(release),
@@ -91,7 +91,7 @@ impl<R: Files + Net<Stream = TcpStream> + Clock + AllocGlobal, E: Write> Publish
         }
     }
 
-    /// The number of the release that was made, by the node that is spoken to.
+    /// The number of the release that was made, as the node in use reports it.
     fn number_made(&self) -> Result<u64, EditorFault> {
         match self.newest_told()? {
             Some(release) => Ok(release),
@@ -99,7 +99,7 @@ impl<R: Files + Net<Stream = TcpStream> + Clock + AllocGlobal, E: Write> Publish
         }
     }
 
-    /// Keeps in the log that a release was made. It is not saved.
+    /// Adds to the log that a release was made. The ledger is not saved.
     fn note(&mut self, made: Made) -> Result<(), EditorFault> {
         let time = seconds(self.rt)?;
         self.ledger.note(Released {
@@ -111,7 +111,7 @@ impl<R: Files + Net<Stream = TcpStream> + Clock + AllocGlobal, E: Write> Publish
         Ok(())
     }
 
-    /// Says of a release what is to be said of this publication, if anything is. It is not saved.
+    /// Keeps the message of this publication for a release, if there is one. The ledger is not saved.
     fn say_of(&mut self, made: Made) -> Result<(), AllocError> {
         if let Some(message) = self.how.message {
             let text = String::from_str(self.rt.alloc(), message)?;
@@ -128,7 +128,7 @@ impl<R: Files + Net<Stream = TcpStream> + Clock + AllocGlobal, E: Write> Publish
         Ok(self.outcome.put(alloc, name, value)?)
     }
 
-    /// Tells, and keeps in the log, a release that was made by a run that was not told its number.
+    /// Reports a release, and adds it to the log, if the run that made it did not learn its number.
     fn note_unlogged<W: Write>(&mut self, out: &mut W) -> Result<Option<Made>, EditorFault> {
         let Some(commands) = unlogged(self.ledger) else {
             return Ok(None);
@@ -147,8 +147,8 @@ impl<R: Files + Net<Stream = TcpStream> + Clock + AllocGlobal, E: Write> Publish
         Ok(Some(made))
     }
 
-    /// Sends the release that is on its way, which was planned now or by a run that was interrupted, and
-    /// tells it in the log.
+    /// Sends the release that is on its way, and adds it to the log. If it is `fresh`, this run has planned
+    /// it; otherwise an interrupted run has.
     fn release(&mut self, ticket: u64, fresh: bool) -> Result<Made, EditorFault> {
         let commands = commands_of(self.ledger, ticket);
         let (before, shown) = (self.newest_told()?, last_shown(self.ledger));
@@ -166,7 +166,7 @@ impl<R: Files + Net<Stream = TcpStream> + Clock + AllocGlobal, E: Write> Publish
         Ok(made)
     }
 
-    /// Sends what is on its way, commands or a release: the release, if it was one.
+    /// Sends what is on its way, commands or a release, and returns the release if it was one.
     fn send_or_release(&mut self, fresh: bool) -> Result<Option<Made>, EditorFault> {
         match release_ticket(self.ledger) {
             Some(ticket) => Ok(Some(self.release(ticket, fresh)?)),
@@ -177,10 +177,10 @@ impl<R: Files + Net<Stream = TcpStream> + Clock + AllocGlobal, E: Write> Publish
         }
     }
 
-    /// Asks again for the paths that this publication changes, once its commands, this plan, are in the log:
-    /// if another editor has put something at one since, it is taken over, or the publication is refused and
-    /// releases nothing. The node gave the receipts of these commands, so it has each release that came
-    /// before them.
+    /// Asks again for the paths that this publication changes, once its commands, `plan`, are in the log. If
+    /// another editor has put something at one of them since, the path is taken over, or the publication is
+    /// refused and releases nothing. The node gave the receipts of these commands, so it has each release
+    /// that came before them.
     fn ask_again(&mut self, asked: &mut Asked, plan: &[String]) -> Result<(), EditorFault> {
         let alloc = self.rt.alloc();
         let newest = self.newest()?;
@@ -209,8 +209,8 @@ impl<R: Files + Net<Stream = TcpStream> + Clock + AllocGlobal, E: Write> Publish
         Ok(texts)
     }
 
-    /// Sends what is on its way: the release, if it was one. After commands the group is asked again for the
-    /// paths that they change.
+    /// Sends what is on its way, and returns the release if it was one. After commands it asks the group
+    /// again for the paths that they change.
     fn send_and_ask(
         &mut self,
         asked: &mut Asked,
@@ -224,7 +224,8 @@ impl<R: Files + Net<Stream = TcpStream> + Clock + AllocGlobal, E: Write> Publish
         Ok(made)
     }
 
-    /// Sends what an interrupted run left on its way, so that a plan can be made: the release, if it was one.
+    /// Sends what an interrupted run left on its way, so that a plan can be made. It returns the release if
+    /// it was one.
     fn send_left(&mut self, asked: &mut Asked) -> Result<Option<Made>, EditorFault> {
         if self.ledger.is_idle() {
             return Ok(None);
@@ -232,9 +233,9 @@ impl<R: Files + Net<Stream = TcpStream> + Clock + AllocGlobal, E: Write> Publish
         self.send_and_ask(asked, false)
     }
 
-    /// Brings a folder of these texts into the group, some of them again, beside those that stay though the
-    /// folder has them no more, and releases it: the release that was made last, or nothing if nothing has
-    /// changed.
+    /// Puts the wanted texts into the group, those of `again` again, and releases them. The texts of `stays`
+    /// stay although the folder no longer has them. It returns the release that was made last, or nothing if
+    /// nothing has changed.
     fn make_release(
         &mut self,
         asked: &mut Asked,
@@ -254,8 +255,8 @@ impl<R: Files + Net<Stream = TcpStream> + Clock + AllocGlobal, E: Write> Publish
         Ok(made)
     }
 
-    /// What the release of a publication of these texts has to show. A folder says itself what it removes; of
-    /// a release of before only what changes counts.
+    /// What the release of a publication of these texts has to show. A folder itself says what it removes; of
+    /// an earlier release only what changes counts.
     fn expected(&self, wanted: &[&str], left: &[String]) -> Result<Vec<View>, AllocError> {
         let alloc = self.rt.alloc();
         let touched = touched(alloc, self.ledger, wanted)?;
@@ -273,7 +274,7 @@ impl<R: Files + Net<Stream = TcpStream> + Clock + AllocGlobal, E: Write> Publish
         Ok(Shown::of(paths.len()))
     }
 
-    /// Tells that nothing has changed, if the group's newest release shows the folder.
+    /// Says that nothing has changed, if the group's newest release shows the folder.
     fn tell_same<W: Write>(&mut self, out: &mut W, views: &[View]) -> Result<Shown, EditorFault> {
         let release = self.newest()?;
         let shown = self.shown(release, views)?;
@@ -286,7 +287,7 @@ impl<R: Files + Net<Stream = TcpStream> + Clock + AllocGlobal, E: Write> Publish
         Ok(shown)
     }
 
-    /// Tells a release that was made, and looks whether it shows what it has to.
+    /// Reports a release that was made, and checks whether it shows what it has to.
     fn tell_release<W: Write>(
         &mut self,
         out: &mut W,
@@ -298,8 +299,8 @@ impl<R: Files + Net<Stream = TcpStream> + Clock + AllocGlobal, E: Write> Publish
         self.shown(made.release, views)
     }
 
-    /// Nothing was to be sent: what is to be said of this publication is said of the release that an earlier
-    /// run made and this one found, if it did.
+    /// Ends a publication that had nothing to send. Its message goes to the release that an earlier run made
+    /// and this one found, if there is one.
     fn say_of_found(&mut self, found: Option<Made>) -> Result<(), EditorFault> {
         let alloc = self.rt.alloc();
         self.outcome.put(alloc, "release", Value::Null)?;
@@ -312,7 +313,7 @@ impl<R: Files + Net<Stream = TcpStream> + Clock + AllocGlobal, E: Write> Publish
         }
     }
 
-    /// Publishes texts whose ledger the group confirmed, and tells the release that was made, if one was.
+    /// Publishes texts whose ledger the group confirmed, and reports the release that was made, if one was.
     fn send_and_show<W: Write>(
         &mut self,
         out: &mut W,
@@ -390,7 +391,7 @@ impl<R: Files + Net<Stream = TcpStream> + Clock + AllocGlobal, E: Write> Publish
         self.send_and_show(out, wanted, taken, found)
     }
 
-    /// Tells what a publication of these texts would take over, if the node that is spoken to says it.
+    /// Reports what a publication of these texts would take over, if the node in use says it.
     fn see_taken<W: Write>(&mut self, out: &mut W, wanted: &[&str]) -> Result<Seen, EditorFault> {
         match self.taken(wanted) {
             Ok(taken) => {
@@ -402,7 +403,7 @@ impl<R: Files + Net<Stream = TcpStream> + Clock + AllocGlobal, E: Write> Publish
         }
     }
 
-    /// Tells what a publication would take over, if the group confirms its ledger.
+    /// Reports what a publication would take over, if the group confirms its ledger.
     fn look<W: Write>(&mut self, out: &mut W, wanted: &[&str]) -> Result<Seen, EditorFault> {
         if self.group.nodes().is_empty() {
             return Ok(Seen::NoNode);
@@ -413,9 +414,9 @@ impl<R: Files + Net<Stream = TcpStream> + Clock + AllocGlobal, E: Write> Publish
         }
     }
 
-    /// Tells what a publication of these texts would put, remove and take over; if it would send nothing,
-    /// whether the group shows the folder. Nothing is sent or saved. If the publication would be refused, so
-    /// is this, after all is reported.
+    /// Reports what a publication of these texts would put, remove and take over. If it would send nothing,
+    /// this reports whether the group shows the folder. Nothing is sent or saved. If the publication would be
+    /// refused, this fails with the same reason, after it has reported all.
     pub(crate) fn tell_plan<W: Write>(
         &mut self,
         out: &mut W,

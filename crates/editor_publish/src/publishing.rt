@@ -27,7 +27,7 @@ fn held<R: Files<File = File> + AllocGlobal>(
     Ok(Some(hold(rt, how.folder)?))
 }
 
-/// Publishes what becomes the next release, or in a dry run tells what would be sent.
+/// Publishes what becomes the next release, or in a dry run prints what would be sent.
 fn run_or_tell<
     'a,
     R: Files + Net<Stream = TcpStream> + Clock + RandomSource + AllocGlobal,
@@ -61,9 +61,9 @@ fn run_or_tell<
     Ok(Ending::of(publisher.run(out, &wanted)?))
 }
 
-/// Publishes a folder to the nodes of these URLs, which have the logins that the word names a file of, and
-/// returns the exit status: 1 if the folder has a fault, or the group does not show it then. What it came to
-/// is kept in the outcome.
+/// Publishes a folder to the nodes of these URLs, which have the logins of the file that `how` names. It
+/// returns the exit status: 1 if the folder has a fault, or if the group does not show it afterwards. The
+/// outcome keeps the results.
 pub fn publish<
     R: Files<File = File>
         + Net<Stream = TcpStream>

@@ -1,4 +1,4 @@
-//! The texts by which pages of a folder come about, or go.
+//! The texts that make or remove the pages of a folder.
 use editor_files::lent;
 use std::alloc::{AllocError, Global};
 use std::collections::BTreeSet;
@@ -72,7 +72,7 @@ impl<'a> Parts<'a> {
     }
 }
 
-/// Which texts put or remove the pages at these paths, and the templates and data that these name.
+/// Which texts put or remove the pages at these paths, and the templates and data that their routes name.
 fn are_at(alloc: Global, texts: &[&str], paths: &[String]) -> Result<Vec<bool>, AllocError> {
     let mut parts = Parts::at(alloc, paths)?;
     for text in texts {
@@ -87,7 +87,7 @@ fn are_at(alloc: Global, texts: &[&str], paths: &[String]) -> Result<Vec<bool>, 
     Ok(are)
 }
 
-/// Whether the name of a partial stands in one of those texts.
+/// Whether one of those texts contains the name of a partial.
 fn is_called(texts: &[&str], are: &[bool], name: &str) -> bool {
     texts
         .iter()
@@ -95,7 +95,7 @@ fn is_called(texts: &[&str], are: &[bool], name: &str) -> bool {
         .any(|(text, is)| *is && text.contains(name))
 }
 
-/// Adds the partials whose names stand in one of those texts. Whether some were added is the answer.
+/// Adds the partials whose names one of those texts contains. It returns whether it added some.
 fn add_partials(texts: &[&str], are: &mut [bool]) -> bool {
     let mut added = false;
     for (i, text) in texts.iter().enumerate() {
@@ -115,9 +115,8 @@ fn add_partials(texts: &[&str], are: &mut [bool]) -> bool {
     added
 }
 
-/// Those of the texts by which the pages at these paths come about, or go: their routes and redirects, the
-/// templates and data that the routes name, and the partials whose names stand in one of these, as a call has
-/// it.
+/// Those of the texts that make or remove the pages at these paths: their routes and redirects, the templates
+/// and data that the routes name, and the partials whose names one of these contains, as a call does.
 pub(crate) fn texts_of_pages(
     alloc: Global,
     texts: &[&str],
@@ -141,7 +140,7 @@ pub(crate) fn texts_of_pages(
     Ok(found)
 }
 
-/// What a text is about: its kind and its name, parted by a blank.
+/// What a text is about: its kind and its name, separated by a space.
 fn subject_of(alloc: Global, text: &str) -> Result<Option<String>, AllocError> {
     let mut words = text.lines().next().unwrap_or("").split(' ');
     let _ = words.next();
@@ -197,15 +196,15 @@ fn about<'a>(
     Ok(found)
 }
 
-/// Texts by which a page comes about while a plan comes into the log: those from before, and those of the
-/// plan, in order.
+/// The texts that make a page while a plan comes into the log: those from before, and those of the plan, in
+/// order.
 #[derive(Drop)]
 pub(crate) struct Course<'a> {
     pub before: Vec<&'a str>,
     pub steps: Vec<&'a str>,
 }
 
-/// The course of the pages at these paths, from these texts by that plan.
+/// The course of the pages at these paths, from the texts `before` by the texts of `plan`.
 pub(crate) fn course_of<'a>(
     alloc: Global,
     before: &[&'a str],

@@ -1,7 +1,7 @@
 //! What commands of an interrupted run have replaced.
 //!
-//! Another editor may put something at a path of theirs before they come into the log, and release it. If a
-//! third editor's release then shows the commands, the newest release no longer shows what was there.
+//! Another editor may put something at the path of such a command before it comes into the log, and release
+//! it. If a third editor's release then shows the command, the newest release no longer shows what was there.
 use crate::asked::compare;
 use crate::own::OwnTexts;
 use editor_common::EditorFault;
@@ -9,9 +9,8 @@ use editor_group::Address;
 use std::alloc::Global;
 use std::net::{Net, TcpStream};
 
-/// Those of the paths that showed something of another editor right before they showed what a folder has put
-/// since its last release, as they do in the newest one, `newest`. The folder's last release has the number
-/// `shown`.
+/// The paths show, in the newest release, `newest`, what the folder has put since its last release, `shown`.
+/// This returns those that showed something of another editor right before that.
 pub(crate) fn replaced<N: Net<Stream = TcpStream>>(
     net: &N,
     alloc: Global,

@@ -1,17 +1,17 @@
 //! What a publication takes over from others who have published in the group, and what it leaves to them.
 //!
-//! Each path is compared whose page the publication changes, or that it puts or removes. It is another's if
-//! the group's newest release has something there that none of the folder's own texts show: not as they were
-//! at its last release, nor since (`states_of` in `editor_plan`). The folder takes it
-//! over if it puts something there, or if that is asked for; if the folder only has nothing there any more,
-//! the path is left to the other. Who takes over a path takes over all of the folder's paths: each is
-//! compared then, and all texts are put again by which a page comes about that is not the folder's
-//! (`renewing.rt`).
+//! It compares each path whose page the publication changes, and each path at which it puts or removes
+//! something. A path is another editor's if the group's newest release has something there that none of the
+//! folder's own texts show: neither those of its last release nor those since (`states_of` in `editor_plan`).
+//! The folder takes such a path over if it puts something there, or if the user asks for that. If the folder
+//! no longer has anything there, the path is left to the other editor. A folder that takes over one path
+//! takes over all of its paths: it compares each of them, and puts again all texts that make a page which is
+//! not the folder's (`renewing.rt`).
 //!
-//! Names of templates, partials and data are not seen from outside: so a folder of which nothing has a
-//! receipt joins a group that has releases only if that is asked for.
+//! No node reports the names of templates, partials and data. So a folder without any receipt joins a group
+//! that has releases only if the user asks for that.
 //!
-//! What another editor puts there only then, `asked.rt` finds; and `replacing.rt` what an interrupted run has
+//! `asked.rt` finds what another editor puts there after this, and `replacing.rt` what an interrupted run has
 //! replaced.
 use crate::asked::{Asked, Compared, apart, compare};
 use crate::comparing::{Change, TOLD, add_paths, changes_of};
@@ -29,18 +29,19 @@ use std::collections::BTreeSet;
 use std::io::Write;
 use std::net::{Net, TcpStream};
 
-/// What a publication does to what others put, in this newest release of the group, and whether it joins what
-/// they have published. And what an interrupted run of the folder left.
+/// What a publication does to what others have put, by the group's newest release, and whether it joins what
+/// they have published. It also says what an interrupted run of the folder left.
 #[derive(Drop)]
 pub(crate) struct Taken {
     pub release: u64,
-    /// Paths that become the folder's, or that it removes, though others put what is there.
+    /// Paths that become the folder's, or that it removes, although others put what is there.
     pub paths: Vec<String>,
     /// Texts of the folder that are put again, whatever its ledger says.
     pub again: Vec<String>,
     /// Paths that were the folder's, are another's now, and stay so.
     pub left: Vec<String>,
-    /// What the folder put for those, and has no more: it is not removed, since the other may use it.
+    /// Texts that the folder put for the paths of `left`, and no longer has. They are not removed, since the
+    /// other editor may use them.
     pub stays: Vec<String>,
     pub joins: bool,
     pub left_over: LeftOver,
@@ -62,14 +63,14 @@ fn paths_of(
     paths.into_iter().collect(alloc)
 }
 
-/// Whether a folder's release is on its way. That is as good as made: the run that began it asked for the
-/// paths of its commands before.
+/// Whether a folder's release is on its way. It counts as made, since the run that began it has already asked
+/// for the paths of its commands.
 fn is_begun(ledger: &Ledger) -> bool {
     release_ticket(ledger).is_some()
 }
 
-/// The paths that are compared: those of the pages that a publication changes, and those that it puts or
-/// removes something at. The folder has these states.
+/// The paths that are compared: those whose page a publication changes, and those at which it puts or removes
+/// something. The states are the folder's (`states_of` in `editor_plan`).
 fn compared_paths(
     alloc: Global,
     ledger: &Ledger,
@@ -104,8 +105,8 @@ fn with_all(alloc: Global, paths: &[String], wanted: &[&str]) -> Result<Vec<Stri
     all.into_iter().collect(alloc)
 }
 
-/// The paths that commands of a folder are about which no release of it has: they are in the log, or on their
-/// way there.
+/// The paths of those commands of a folder that none of its releases has. These commands are in the log, or
+/// on their way there.
 fn unreleased(alloc: Global, ledger: &Ledger) -> Result<BTreeSet<String>, AllocError> {
     let last = ledger.last_release();
     let mut paths = BTreeSet::new(alloc);
@@ -120,7 +121,7 @@ fn unreleased(alloc: Global, ledger: &Ledger) -> Result<BTreeSet<String>, AllocE
     Ok(paths)
 }
 
-/// Those of the paths that are among the first ones, and the others.
+/// Those of the paths that are in `first`, and the others.
 fn parted(
     alloc: Global,
     paths: Vec<String>,
@@ -137,8 +138,9 @@ fn parted(
     Ok((some, others))
 }
 
-/// What is taken over of those paths that are another's, and what is left to the other: what the folder only
-/// has no more, if none of its commands about that may still be released.
+/// Which of another editor's paths are taken over, and which are left to the other. Without `take_over`, a
+/// path is left if the folder no longer has anything there and none of its commands about the path may still
+/// be released.
 fn taken_and_left(
     alloc: Global,
     ledger: &Ledger,
@@ -154,10 +156,10 @@ fn taken_and_left(
     parted(alloc, paths, &about)
 }
 
-/// The paths that are taken over: those that others took over, and those where commands of an interrupted run
-/// have replaced what others put, after the release `shown`. And those that are not the folder's. It compares
-/// the paths that a publication changes; and all of the folder's, if some of them are taken over or
-/// `take_over` asks for that.
+/// Returns the paths that are taken over, and those that are not the folder's. Taken over are the paths that
+/// others took over, and those at which commands of an interrupted run, after the release `shown`, replaced
+/// what others had put. It compares the paths that a publication changes. If some of them are taken over, or
+/// `take_over` asks for that, it compares all of the folder's.
 fn compare_all<N: Net<Stream = TcpStream>>(
     net: &N,
     alloc: Global,
@@ -194,7 +196,8 @@ fn is_about_some(alloc: Global, paths: &[String], wanted: &[&str]) -> Result<boo
     Ok(paths.iter().any(|path| about.contains(path.as_str())))
 }
 
-/// What a folder has put, by its ledger, for pages at these paths, and of which it wants nothing.
+/// The texts that a folder has put, by its ledger, for the pages at these paths. It leaves out those that are
+/// about what a wanted text is about.
 fn staying(
     alloc: Global,
     ledger: &Ledger,
@@ -252,7 +255,7 @@ pub(crate) fn taken_over<N: Net<Stream = TcpStream>>(
     })
 }
 
-/// The wanted texts, and those that stay though the folder has them no more.
+/// The wanted texts, and those that stay although the folder no longer has them.
 pub(crate) fn with_staying<'a>(
     alloc: Global,
     wanted: &[&'a str],
@@ -265,7 +268,7 @@ pub(crate) fn with_staying<'a>(
     Ok(texts)
 }
 
-/// Plans texts, some of them again, if some are to be and nothing is on its way.
+/// Plans texts, those of `again` again. It does nothing if `again` is empty or if something is on its way.
 pub(crate) fn plan_again(
     alloc: Global,
     ledger: &mut Ledger,
@@ -278,7 +281,7 @@ pub(crate) fn plan_again(
     ledger.plan_again(alloc, texts, again)
 }
 
-/// What was sent of a publication that is refused, if so much of its folder is in the log already.
+/// How a refusal says that nothing was sent: `nothing more` if an earlier run left commands.
 fn what_was_sent(left: LeftOver) -> &'static str {
     if left.is_none() {
         "nothing"
@@ -287,7 +290,7 @@ fn what_was_sent(left: LeftOver) -> &'static str {
     }
 }
 
-/// Why a publication goes no further that would replace or remove what others have put.
+/// Why a publication stops that would replace or remove what others have put.
 pub(crate) fn others_have_put(alloc: Global, left: LeftOver) -> Result<EditorFault, AllocError> {
     let nothing = what_was_sent(left);
     Ok(EditorFault::Stop(format!(in alloc;
@@ -312,7 +315,8 @@ pub(crate) fn refusal_of(alloc: Global, taken: &Taken) -> Result<Option<EditorFa
     Ok(Some(others_have_put(alloc, taken.left_over)?))
 }
 
-/// Tells which commands of a folder are in the log though no release of it has them, if there are some.
+/// Reports how many commands of a folder are in the log although no release of it has them, if there are
+/// some.
 pub(crate) fn tell_left_over<E: Write>(
     alloc: Global,
     err: &mut E,
@@ -336,7 +340,7 @@ pub(crate) fn tell_left_over<E: Write>(
     )?)
 }
 
-/// Tells paths after a word, the first of them one by one.
+/// Reports paths after a word: the first `TOLD` of them one by one, then how many more there are.
 pub(crate) fn tell_paths<E: Write>(
     alloc: Global,
     err: &mut E,
@@ -353,7 +357,7 @@ pub(crate) fn tell_paths<E: Write>(
     Ok(())
 }
 
-/// Tells the paths that are taken over, and those that are left to others.
+/// Reports the paths that are taken over, and those that are left to others.
 pub(crate) fn tell_taken_over<E: Write>(
     alloc: Global,
     err: &mut E,

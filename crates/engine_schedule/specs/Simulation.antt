@@ -76,7 +76,7 @@ pub record Takes (n : ℕ) (old : Moment) (events : List Event) (new : Moment) :
   pub leads : LeadsTo old.world new.world (λ w after. TakesAll n w events after)
   pub moment : IsMoment n new
 
--- each message from the least index that no settle has taken on, until none is left
+-- each message is delivered, from the least index that no settle has taken, until none is left
 pub record Settles (n : ℕ) (old new : Moment) : Type 0 where
   pub count : ℕ
   pub takes : Takes n old (deliveries n old.settled count) new
@@ -84,7 +84,7 @@ pub record Settles (n : ℕ) (old new : Moment) : Type 0 where
   pub none_left : length (messages_of new.world.sent.items) ≤ new.settled
 
 -- Two ticks and 8 n deliveries at most, after which node p knows what was its first unknown instance, unless
--- a device failed meanwhile. None outside of a quiet state
+-- a device failed meanwhile. If the state is not quiet there are no events
 pub record TakesPlan (n : ℕ) (old : Moment) (p : ℕ) (new : Moment) : Type 0 where
   pub plan : List Event
   pub short : IsShort n plan
@@ -130,7 +130,7 @@ pub record HasRelease (s : Node) (n : ℕ) : Type 0 where
   pub first : 1 ≤ n
   pub counted : n ≤ release_count (effective values)
 
--- the node isn't down and has release n, of which this is the page: that of the values that are decided
+-- the node isn't down and has release n. The page is that of this release, by the values that are decided
 pub record IsPage (m : Moment) (p n : ℕ) (path printed : List ℕ) : Type 0 where
   pub page : Page
   pub up : (w : World) → IsWorldOf m.world w → (w.node p).mode ≢ Down
@@ -149,7 +149,7 @@ IsTraced m printed = (w : World) → IsWorldOf m.world w → printed ≡ flat_ma
 
 -- ---- lines
 
--- a line with an event: it is taken, and nothing is printed
+-- the event of a line is taken, and nothing is printed
 pub record TakesOne (n : ℕ) (old : Moment) (line : Line) (printed : List ℕ) (new : Moment) : Type 0 where
   pub event : Event
   pub is : event_of line ≡ Some event
@@ -167,7 +167,7 @@ Does n old (get_line p r path) printed new =
 Does n old trace_line printed new = IsTraced old printed × (new ≡ old)
 Does n old line printed new = TakesOne n old line printed new
 
--- a quiet line of none of the nodes, or a question to none
+-- a line `quiet`, `show` or `get` that names a node which does not exist
 abbrev pub AsksNone : ℕ → Line → Type 0
 AsksNone n (quiet_line p) = ¬ IsNode n p
 AsksNone n (show_line p) = ¬ IsNode n p

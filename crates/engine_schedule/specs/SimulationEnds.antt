@@ -40,11 +40,11 @@ pub record Finished (reader out err : End) (status : ℕ) : Type 0 where
 
 -- ---- faults
 
--- no first line is in what was read, nor ever will be
+-- no first line is in what was read, and none ever will be
 abbrev pub HasBadNodes : End → List ℕ → Type 0
 HasBadNodes reader taken = (IsAtEnd reader.after × HasNoNodes taken) ⊎ GetsNoNodes taken
 
--- no line is there, nor ever will be; or one that names none of the nodes
+-- no line is there, and none ever will be; or the line names a node that does not exist
 abbrev pub HasBadLine : End → ℕ → List ℕ → Type 0
 HasBadLine reader n rest =
     (IsAtEnd reader.after × HasNoLine rest × (rest ≢ [])) ⊎ GetsNoLine rest
@@ -55,8 +55,8 @@ abbrev pub HasBadEvent : ℕ → Moment → List ℕ → Type 0
 HasBadEvent n m rest =
     (line : Line) × (more : List ℕ) × Fits line × (rest ≡ spelled line ++ more) × IsBadEvent n m line
 
--- the fault's line. k is the line after those that were done: a bad line or event; or the reader failed; or
--- an allocation failed
+-- what is reported at line k, the first that was not done: the line or its event is bad, or the reader
+-- failed, or an allocation failed
 abbrev pub IsFault : End → ℕ → Moment → ℕ → List ℕ → List ℕ → Type 0
 IsFault reader n m k rest said =
     ((said ≡ fault_at k (codes "bad line")) × HasBadLine reader n rest)
@@ -71,7 +71,7 @@ IsFirstFault reader taken said =
     ⊎ ((said ≡ codes "read failed\n") × HasFailed reader)
     ⊎ (said ≡ codes "out of memory\n")
 
--- the first line was no first line
+-- the first line was not done
 pub record NotBegun (reader out err : End) (status : ℕ) : Type 0 where
   pub taken : List ℕ
   pub read : Consumes reader.before reader.after taken

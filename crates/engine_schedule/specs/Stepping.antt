@@ -26,7 +26,7 @@ moment_of s events = record { world = s.world; events = events; settled = s.sett
 
 -- ---- lines
 
--- after the line the events are some
+-- some events lead to the simulation after the line
 abbrev pub DoesTo : ℕ → Moment → Line → List ℕ → Simulation → Type 0
 DoesTo n old line printed new =
     (events : List Event) × IsMoment n (moment_of new events) × Does n old line printed (moment_of new events)
@@ -88,7 +88,7 @@ BeginEnds reader old new (Err sim.BadEvent) = ⊥
 BeginEnds reader old new (Err sim.OutOfMemory) = HasTaken reader
 BeginEnds reader old new (Err sim.Read) = HasTaken reader × HasFailed reader
 
--- what follows an earlier part of a run, as that run's end
+-- an earlier part of a run and a later one together: they begin as the earlier one, and end as the later one
 abbrev pub behind : Option (List ℕ) → ℕ → End → End
 behind before failures later = record {
   before = before;
@@ -97,7 +97,7 @@ behind before failures later = record {
   failures_after = later.failures_after;
 }
 
--- the line that reports a fault at line k. An allocation may fail for it
+-- the line that reports a fault at line k, or that an allocation for it failed
 abbrev pub IsSaid : ℕ → SimFault → List ℕ → Type 0
 IsSaid k sim.BadLine said = (said ≡ fault_at k (codes "bad line")) ⊎ (said ≡ codes "out of memory\n")
 IsSaid k sim.BadEvent said = (said ≡ fault_at k (codes "bad event")) ⊎ (said ≡ codes "out of memory\n")

@@ -13,7 +13,7 @@ use Rattle.wire.specs.declared.message.Message.TheVariants.{Chosen}
 abbrev pub ballot_words : BallotOf → List ℕ → List ℕ
 ballot_words b rest = decimal b.round ++ (codes " " ++ (decimal b.node ++ rest))
 
--- a value by its ticket; a shorter one, as the no-op, has none
+-- a value by its ticket. A value that is too short for a ticket, such as the no-op, has none
 abbrev pub value_words : List ℕ → List ℕ
 value_words v =
     if nat_le TICKET_BYTES (length v) then
@@ -71,7 +71,7 @@ own_words (Nack p i b c) =
 own_words (Ask p i) = codes "\n"
 own_words (Chosen p i v) = codes " value " ++ (value_words v ++ codes "\n")
 
--- of a message that may be missing
+-- the line of a message, and nothing if there is none
 abbrev pub line_or_nothing : Option Message → List ℕ
 line_or_nothing None = []
 line_or_nothing (Some m) = message_line m

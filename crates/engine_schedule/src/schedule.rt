@@ -1,7 +1,7 @@
 //! The lines of a schedule.
 //!
-//! A bad line is reported as soon as nothing that follows can mend it; so are an empty file, a last line
-//! without its newline and a submission cut short. A fault's number counts lines; an index has 64 bits.
+//! A bad line is reported as soon as nothing that follows can mend it. So are an empty file, a last line
+//! without its newline and a submission cut short. The number of a fault counts lines. An index has 64 bits.
 
 ghost use Rattle.std.specs.Prelude.{◌≡◌, ◌≢◌, ℕ, List, ◌∷◌, ◌++◌, ◌<◌, ◌≤◌, ◌^◌, MatchOption, codes, decimal};
 ghost use Rattle.std.specs.Prelude.{[], Some, None, false};
@@ -216,7 +216,7 @@ fn number_line(head: &[u8]) -> Option<Line<'_>>
     Some(Line::Crash { node, choice })
 }
 
-/// A line that is no submission, without its newline.
+/// A line that is not a submission, without its newline.
 fn plain_line(head: &[u8]) -> Option<Line<'_>>
     requires { Lacks 10 head.now }
     ensures { MatchOption result ((line : AbstractLine) → Fits line → body line ≡ []

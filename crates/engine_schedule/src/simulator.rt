@@ -1,6 +1,6 @@
 //! The simulator: a schedule in, what its nodes show out.
 //!
-//! A stopped `quiet` is `out of memory`.
+//! A `quiet` that stops is reported as `out of memory`.
 
 ghost use Rattle.std.specs.Prelude.{◌≡◌, ◌⊎◌, ℕ, Option, List, [], ◌∷◌, ◌++◌, ◌<◌, ◌≤◌, ◌+◌, length, IfOk};
 ghost use Rattle.std.specs.Prelude.{OnOk, IfErr, IsErrOf, Ok, Err, string_bytes, codes};
@@ -154,7 +154,7 @@ fn page_text(alloc: Global, answer: &Answer) -> Result<String, AllocError>
     format!(in alloc; "{status} {len}\n{body}")
 }
 
-/// The answer of a line that prints nothing.
+/// What a line that prints nothing returns.
 fn silent(alloc: Global, done: Result<(), SimFault>) -> Result<String, SimFault>
     ensures ok { IfOk result (λ text. (string_bytes text ≡ []) × (done ≡ Ok tt)) }
     ensures err { IfErr result (λ e. done ≡ Err e) }
@@ -292,7 +292,7 @@ impl Simulation {
         Ok(got_text(alloc, number, release, path, page.as_str())?)
     }
 
-    /// The lines of the page that a node answers with, or that there is none.
+    /// The lines of the page that a node answers with, or `none`.
     fn page_or_none(
         &self,
         alloc: Global,
@@ -316,7 +316,7 @@ impl Simulation {
         }
     }
 
-    /// Does a line. The answer is what it prints.
+    /// Does a line, and returns what it prints.
     fn happen(&mut self, alloc: Global, line: &Line<'_>) -> Result<String, SimFault>
         ensures { HappenEnds self.old self.new (line_view line.now) result }
     {
@@ -337,7 +337,7 @@ impl Simulation {
         }
     }
 
-    /// Does the next line of the input. The answer is what it prints, or nothing at the input's end.
+    /// Does the next line of the input, and returns what it prints, or nothing at the input's end.
     fn next<R: Read>(
         &mut self,
         alloc: Global,

@@ -50,6 +50,6 @@ Fits (drive_line p k) = IsNode SERVERS p × (k ≤ MAX_TURNS)
 abbrev pub HasNoLine : List ℕ → Type 0
 HasNoLine bytes = (line : Line) (rest : List ℕ) → Fits line → bytes ≢ spelled line ++ rest
 
--- nor does one come, whichever bytes follow
+-- no line is at the front, whatever bytes follow
 abbrev pub GetsNoLine : List ℕ → Type 0
 GetsNoLine bytes = (more : List ℕ) → HasNoLine (bytes ++ more)

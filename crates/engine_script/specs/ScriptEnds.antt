@@ -48,7 +48,7 @@ pub record Finished (reader out err : End) (status : ℕ) : Type 0 where
 
 -- ---- faults
 
--- no line is there, nor ever will be
+-- no line is there, and none ever will be
 abbrev pub HasBadLine : End → List ℕ → Type 0
 HasBadLine reader rest = (IsAtEnd reader.after × HasNoLine rest × (rest ≢ [])) ⊎ GetsNoLine rest
 
@@ -56,8 +56,8 @@ HasBadLine reader rest = (IsAtEnd reader.after × HasNoLine rest × (rest ≢ []
 abbrev pub HasRequest : List ℕ → Type 0
 HasRequest rest = (line : Line) × (more : List ℕ) × Fits line × (rest ≡ spelled line ++ more) × IsRequest line
 
--- the fault's line. k is the line after those that were done: a bad line; or the reader failed; or a
--- request's socket failed; or an allocation failed
+-- what is reported at line k, the first that was not done: the line is bad, or the reader failed, or a
+-- request's socket failed, or an allocation failed
 abbrev pub IsFault : End → ℕ → List ℕ → List ℕ → Type 0
 IsFault reader k rest said =
     ((said ≡ fault_at k (codes "bad line")) × HasBadLine reader rest)

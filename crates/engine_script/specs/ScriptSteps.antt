@@ -48,7 +48,7 @@ NextEnds reader old new (Err script.Socket) = (held : List ℕ) × Grown reader 
 NextEnds reader old new (Err script.OutOfMemory) = HasTaken reader
 NextEnds reader old new (Err script.Read) = HasTaken reader × HasFailed reader
 
--- the line that reports a fault at line k. An allocation may fail for it
+-- the line that reports a fault at line k, or that an allocation for it failed
 abbrev pub IsSaid : ℕ → ScriptFault → List ℕ → Type 0
 IsSaid k script.BadLine said = (said ≡ fault_at k (codes "bad line")) ⊎ (said ≡ codes "out of memory\n")
 IsSaid k script.Socket said = said ≡ codes "socket failed\n"

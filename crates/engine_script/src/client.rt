@@ -1,6 +1,6 @@
 //! What a client of a server sends, and what it shows of an answer.
 //!
-//! All faults of sockets are one; calls wait a second, as one thread is both ends.
+//! All faults of sockets are one fault. A call waits for a second at most, since one thread is both ends.
 
 ghost use Rattle.std.specs.Prelude.{◌≡◌, ℕ, List, drop, IfOk, IfErr, MatchOption};
 ghost use Rattle.engine_script.specs.Client.{post_request, get_request, IsResponse, HasNoAnswer, IsShown};

@@ -1,4 +1,5 @@
-//! Three servers that a script drives: its lines in, what its requests are answered with out.
+//! Three servers that a script drives. The input is the script's lines, the output the answers to its
+//! requests.
 ghost use Rattle.std.specs.Prelude.{◌≡◌, ◌⊎◌, ℕ, List, IfOk, codes};
 ghost use Rattle.site_ids.specs.Ids.{IsNode};
 ghost use Rattle.http_read.specs.Bytes.{end_of, IsGiven};
@@ -77,7 +78,7 @@ fn answered<N: Net<Stream = TcpStream>>(
     shown(alloc, received.as_slice())
 }
 
-/// Does a line. The answer is what it prints.
+/// Does a line, and returns what it prints.
 fn happen<N: Net<Stream = TcpStream>>(
     net: &N,
     alloc: Global,
@@ -107,7 +108,7 @@ fn happen<N: Net<Stream = TcpStream>>(
     }
 }
 
-/// Does the next line of the input. The answer is what it prints, or nothing at the input's end.
+/// Does the next line of the input, and returns what it prints, or nothing at the input's end.
 fn next<N: Net<Stream = TcpStream>, R: Read>(
     net: &N,
     alloc: Global,
@@ -144,7 +145,7 @@ fn say_fault<E: Write>(alloc: Global, err: &mut Counted<E>, k: u64, fault: Scrip
     }
 }
 
-/// Does a script line by line over servers, and prints what its requests are answered with.
+/// Does a script line by line over servers, and prints the answers to its requests.
 fn run<N: Net<Stream = TcpStream>, R: Read, W: Write, E: Write>(
     net: &N,
     alloc: Global,
@@ -171,10 +172,10 @@ fn run<N: Net<Stream = TcpStream>, R: Read, W: Write, E: Write>(
     say(err, "out of memory\n")
 }
 
-/// Opens three servers, does a script line by line, and prints what its requests are answered with.
+/// Opens three servers, does a script line by line, and prints the answers to its requests.
 ///
-/// A request's connection lives within its line, and no server works unless a line lets it. What sockets
-/// carry is not said.
+/// A request's connection lives within its line, and no server works unless a line lets it. The contract does
+/// not say what sockets carry.
 pub fn sitecluster<N: Net<Listener = TcpListener, Stream = TcpStream>, R: Read, W: Write, E: Write>(
     net: &N,
     alloc: Global,

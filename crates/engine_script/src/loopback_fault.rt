@@ -14,7 +14,7 @@ pub(crate) enum LoopbackFault {
     /// A call of a socket failed, or its peer gave no whole response.
     #[error("socket failed")]
     Socket,
-    /// An allocation failed: a disk in memory fails for that too.
+    /// An allocation failed, possibly in a disk in memory.
     #[error("out of memory")]
     OutOfMemory,
 }

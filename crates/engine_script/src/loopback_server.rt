@@ -44,7 +44,7 @@ fn fresh_node(alloc: Global, cluster: Cluster, me: NodeId) -> Result<Served<MemD
     }
 }
 
-/// Has each read and each write of a connection wait for a second at most.
+/// Limits each read and each write of a connection to a second.
 fn limit_waiting(stream: &TcpStream) -> io::Result<()> {
     let patience = Some(Duration::from_secs(PATIENCE));
     stream.set_read_timeout(patience)?;
@@ -87,13 +87,14 @@ impl LoopbackServer {
         })
     }
 
-    /// Takes turns of its node.
+    /// Lets its node take `turns` turns.
     pub(crate) fn drive(&mut self, alloc: Global, turns: u32) -> Result<(), NodeFault> {
         drive(alloc, &mut self.served.node, &mut self.link, turns)?;
         Ok(())
     }
 
-    /// Accepts the connection that waits, answers its requests and closes it. If that fails, it is ignored.
+    /// Accepts the connection that waits, answers its requests and closes it. A fault of serving is ignored,
+    /// except a failed allocation.
     fn answer(&mut self, alloc: Global) -> Result<(), LoopbackFault> {
         let (stream, _from) = self.listener.accept()?;
         limit_waiting(&stream)?;

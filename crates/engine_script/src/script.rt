@@ -105,7 +105,7 @@ fn driving(head: &[u8]) -> Option<(NodeId, u32)>
     Some((node, turns as u32))
 }
 
-/// A line that is no post, without its newline.
+/// A line that is not a post, without its newline.
 fn plain_line(head: &[u8]) -> Option<Line<'_>>
     requires { Lacks 10 head.now }
     ensures { MatchOption result ((line : AbstractLine) → Fits line → body line ≡ []

@@ -12,11 +12,11 @@ use site_ids::{Cluster, NodeId};
 use std::alloc::Global;
 use std::net::{Net, SocketAddr, TcpListener, TcpStream, UdpSocket};
 
-/// How many turns a node takes when all take turns.
+/// How many turns each node takes in `take_turns`.
 const TURNS: u32 = 20;
 
-/// The servers 1 to 3, in order. Each is boxed, since what owns one is proved to let it go, and a box is let
-/// go of in one step.
+/// The servers 1 to 3, in order. Each is boxed: the proof shows that what owns one drops it, and a box is
+/// dropped in one step.
 #[derive(Drop)]
 pub(crate) struct Servers {
     first: Box<LoopbackServer>,
@@ -120,14 +120,14 @@ impl Servers {
         }
     }
 
-    /// Takes turns of one node.
+    /// Lets one node take `turns` turns.
     pub(crate) fn drive(&mut self, alloc: Global, node: NodeId, turns: u32) -> Result<(), NodeFault>
         requires { IsNode SERVERS node }
     {
         self.at(node).drive(alloc, turns)
     }
 
-    /// Takes 20 turns of each node, in order, as often as is asked for.
+    /// Lets each node take 20 turns, in order, `count` times.
     pub(crate) fn take_turns(&mut self, alloc: Global, count: u32) -> Result<(), NodeFault> {
         for _ in 0..count {
             self.first.drive(alloc, TURNS)?;
@@ -137,7 +137,7 @@ impl Servers {
         Ok(())
     }
 
-    /// Sends a request to a node, lets it serve, and gives what it wrote.
+    /// Sends a request to a node, lets it serve, and returns what it wrote.
     pub(crate) fn ask<N: Net<Stream = TcpStream>>(
         &mut self,
         net: &N,

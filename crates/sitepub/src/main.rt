@@ -1,8 +1,8 @@
 //! What an editor does with a folder of a site: `sitepub new`, `import`, `check`, `preview`, `publish`,
 //! `restore`, `log`, `status`, `export`, `frame`.
 //!
-//! `words.rt` does what a command line says (`editor_options`); what each word comes to stands in crates of
-//! its own (`editor_words`, `editor_import`, `editor_publish`, `editor_group`, `editor_preview`, over
+//! `words.rt` does what a command line says (`editor_options`). What each word does is in crates of their own
+//! (`editor_words`, `editor_import`, `editor_publish`, `editor_group`, `editor_preview`, over
 //! `editor_files`). What real files and sockets give and take is tested, not proved.
 #![tactic(auto)]
 
@@ -13,8 +13,9 @@ use std::io;
 use std::process::ExitCode;
 use words::sitepub;
 
-/// Takes the places of standard input, output and error that are closed: another file would be opened there,
-/// and what is printed would be written into it. Writing to one of these places fails.
+/// Takes the places of standard input, output and error that are closed. Otherwise a file that is opened
+/// later would get such a place, and what is printed would be written into it. Writing to a place taken here
+/// fails.
 fn stand_ins(rt: &HostRuntime) -> [io::Result<File>; 3] {
     [
         File::open(rt, "/"),

@@ -20,22 +20,22 @@ use std::net::{Net, TcpListener, TcpStream};
 use std::random::RandomSource;
 use std::rt::{Clock, Env, Files};
 
-/// What a command line is refused with that is no UTF-8.
+/// The refusal of a command line that is not UTF-8.
 const NOT_UTF8: &str = "error: invalid UTF-8 was detected in one or more arguments";
 
 /// What is written if an allocation failed.
 const OUT_OF_MEMORY: &str = "out of memory";
 
-/// What `--version` prints: the heading of `docs/CHANGES.md` that this is of.
+/// What `--version` prints: the heading of this version in `docs/CHANGES.md`.
 const VERSION: &str = "sitepub 1.0";
 
-/// Writes a line, if that can be written, and returns the exit status that goes with it.
+/// Writes a line, if it can be written, and returns the exit status that goes with it.
 fn tell<W: Write, L: Display>(out: &mut W, line: &L, status: u8) -> u8 {
     let _ = writeln!(out, "{line}");
     status
 }
 
-/// Why a folder has published nothing: it is not there, or was never published.
+/// Why a folder has published nothing: it does not exist, or was never published.
 fn unpublished<R: Files + AllocGlobal>(rt: &R, folder: &str) -> Result<EditorFault, AllocError> {
     let alloc = rt.alloc();
     match fs::metadata(rt, folder) {
@@ -69,13 +69,13 @@ fn checking<'a>(word: &CheckWord<'a>) -> Checking<'a> {
     }
 }
 
-/// Keeps why a word came to no end.
+/// Keeps why a word failed.
 fn keep_fault(alloc: Global, outcome: &mut Outcome, why: &EditorFault) -> Result<(), AllocError> {
     let why = format!(in alloc; "{why}")?;
     outcome.put(alloc, "fault", Value::String(why))
 }
 
-/// Writes what a word came to as one JSON object, its exit status among it.
+/// Writes the results of a word as one JSON object, including its exit status.
 fn write_outcome<W: Write>(
     alloc: Global,
     out: &mut W,
@@ -91,7 +91,7 @@ fn words_of<R: Env + AllocGlobal>(rt: &R) -> io::Result<Vec<String>> {
     Ok(env::args(rt)?.collect(rt.alloc())?)
 }
 
-/// Tells why there are no words, and gives the exit status.
+/// Reports why the words cannot be read, and returns the exit status.
 fn tell_no_words<E: Write>(err: &mut E, why: &io::Error) -> u8 {
     if why.kind() == io::ErrorKind::OutOfMemory {
         return tell(err, &OUT_OF_MEMORY, 1);
@@ -99,7 +99,7 @@ fn tell_no_words<E: Write>(err: &mut E, why: &io::Error) -> u8 {
     tell(err, &NOT_UTF8, 2)
 }
 
-/// Tells why a command line is no word, help among it, and gives the exit status.
+/// Prints why a command line is invalid, or the help that it asks for, and returns the exit status.
 fn tell_refusal<W: Write, E: Write>(out: &mut W, err: &mut E, refused: &clap::Error) -> u8 {
     if refused.kind() == ErrorKind::OutOfMemory {
         return tell(err, &OUT_OF_MEMORY, 1);
@@ -114,7 +114,7 @@ fn asks_version(words: &[String]) -> bool {
     matches!(words, [_, word] if word.as_str() == "--version")
 }
 
-/// What the words are done with: the system, standard output, and the other writer.
+/// What the words are done with: the system, the writer of results and the writer of reports.
 #[derive(Drop)]
 struct Run<'a, R, W, E> {
     rt: &'a R,
@@ -134,7 +134,7 @@ impl<
     W: Write,
     E: Write,
 > Run<'_, R, W, E> {
-    /// Tells what nodes say of themselves whose logins a file may have.
+    /// Prints what nodes say of themselves. A file may have their logins.
     fn status_by(
         &mut self,
         outcome: &mut Outcome,
@@ -146,7 +146,7 @@ impl<
         tell_status(self.rt, self.out, self.err, outcome, &urls, published)
     }
 
-    /// Publishes a folder to nodes whose logins a file may have.
+    /// Publishes a folder to nodes. A file may have their logins.
     fn publish_by(
         &mut self,
         outcome: &mut Outcome,
@@ -157,7 +157,7 @@ impl<
         publish(self.rt, self.out, self.err, outcome, word, &urls)
     }
 
-    /// Does what a word says that is told how to speak. What it came to is kept in the outcome.
+    /// Does a word that is told how to report, and keeps its results in the outcome.
     fn tell_word(&mut self, outcome: &mut Outcome, word: &ToldWord<'_>) -> Result<u8, EditorFault> {
         match word {
             ToldWord::Check(word) => check(self.rt, self.out, self.err, outcome, checking(word)),
@@ -167,7 +167,7 @@ impl<
         }
     }
 
-    /// Does what a word says that reads and writes files.
+    /// Does a word that reads and writes files.
     fn write_files(&mut self, word: FileWord<'_>) -> Result<u8, EditorFault> {
         match word {
             FileWord::New { folder } => begin(self.rt, self.out, self.err, folder),
@@ -192,7 +192,7 @@ impl<
         }
     }
 
-    /// Does what a word says. What it came to is kept in the outcome.
+    /// Does what a word says, and keeps its results in the outcome.
     fn done(&mut self, outcome: &mut Outcome, word: &Word<'_>) -> Result<u8, EditorFault> {
         match word {
             Word::Files(word) => self.write_files(*word),
@@ -205,8 +205,8 @@ impl<
         }
     }
 
-    /// Does what a word says, and returns the exit status. If it fails, why is written, and kept in the
-    /// outcome.
+    /// Does what a word says, and returns the exit status. If it fails, the reason is written, and kept in
+    /// the outcome.
     fn status_of(&mut self, outcome: &mut Outcome, word: &Word<'_>) -> u8 {
         match self.done(outcome, word) {
             Ok(status) => status,
@@ -217,8 +217,8 @@ impl<
         }
     }
 
-    /// Does what a word says. If the status is not 0, what it tells on the other writer is written at its
-    /// end, after the table of `status`, which says why.
+    /// Does what a word says, and writes nothing if the status is 0. Otherwise it writes at the end what the
+    /// word reported to `err`, after the table of `status`, which says why.
     fn quiet_status_of(&mut self, outcome: &mut Outcome, word: &Word<'_>) -> u8 {
         let mut table: Vec<u8> = Vec::new(self.rt.alloc());
         let mut told: Vec<u8> = Vec::new(self.rt.alloc());
@@ -246,7 +246,7 @@ impl<
         status
     }
 
-    /// Does what a word says in the manner that it was told, and gives the exit status.
+    /// Does what a word says in the manner that its command line asks for, and returns the exit status.
     fn end_of(&mut self, word: &Word<'_>) -> u8 {
         let Manner { quiet, json } = word.manner();
         let mut outcome = Outcome::new(self.rt.alloc());
@@ -284,8 +284,8 @@ impl<
     }
 }
 
-/// Does what the command line says, and returns the exit status: 1 if something was refused or failed, 2 for
-/// a line that is none. Either is written to the other writer.
+/// Does what the command line says, and returns the exit status: 1 if something was refused or failed, 2 if
+/// the line is invalid. The reason is written to `err`.
 pub fn sitepub<
     'a,
     R: Files<File = File>
