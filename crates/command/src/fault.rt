@@ -13,9 +13,9 @@ pub enum CommandFault {
     TooLong,
     #[error("the value has the form of no command")]
     Form,
-    #[error("a name is none")]
+    #[error("a name is invalid")]
     Name,
-    #[error("the path is none")]
+    #[error("the path is invalid")]
     Path,
     #[error("the template has a fault: {0}")]
     Template(TemplateFault),

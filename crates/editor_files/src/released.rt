@@ -20,7 +20,7 @@ fn lost(
              take them from git, or from a backup"
         )?,
         None => format!(in alloc;
-            "{folder}: has made no release {release}: sitepub log {folder} tells which it has"
+            "{folder}: made no release {release}: sitepub log {folder} prints those that it made"
         )?,
     };
     Ok(EditorFault::Stop(words))

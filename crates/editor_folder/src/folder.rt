@@ -376,7 +376,7 @@ const PASSES: [Pass; 7] = [
 /// Why the command of a line of `redirects` is invalid, and what to do.
 const REDIRECT_REASON: &str =
     "a path and its target begin with /, with neither /_ nor /@, have 200 bytes at most, and no blank; a \
-     target begins with one / alone";
+     target begins with only one /";
 
 /// Why a line's command is invalid, and what to do.
 fn line_reason(fault: &CommandFault) -> &'static str {

@@ -205,13 +205,13 @@ impl<'a> Nesting<'a> {
         if self.is_endless(number) {
             let partial = self.round_below(number);
             format!(in alloc;
-                "the {partial} comes to call itself, and partials may nest {most} deep: let data end that \
-                 (an empty list in the innermost item), or take the call away; where they end it, {COST}"
+                "the {partial} ends up calling itself, and partials may nest {most} deep: let data end that \
+                 (an empty list in the innermost item), or take the call away; if they end it, {COST}"
             )
         } else if depth > most {
             format!(in alloc;
                 "its partials can nest {depth} deep, and may {most} deep: put inner ones into those that \
-                 call them; where data keep them from it, {COST}"
+                 call them; if data keep them from it, {COST}"
             )
         } else {
             String::from_str(alloc, COST)

@@ -109,7 +109,7 @@ fn place_and_reason(
                 "rename the file: a name is 1 to 64 of the letters a to z and A to Z, digits, _ - . and /",
             )?,
         ),
-        CommandFault::Path => (None, String::from_str(alloc, "a path that is none")?),
+        CommandFault::Path => (None, String::from_str(alloc, "an invalid path")?),
         CommandFault::Template(fault) => {
             let place = place_of(text.as_bytes(), fault.place);
             (Some(place), template_reason(alloc, text, *fault)?)

@@ -77,7 +77,7 @@ fn file_of(alloc: Global, key: &str) -> Result<String, AllocError> {
 /// A file of which nothing is shown.
 fn unused(alloc: Global, key: &str) -> Result<Finding, AllocError> {
     let file = file_of(alloc, key)?;
-    file_warning(alloc, file.as_str(), "no page of this folder comes to it")
+    file_warning(alloc, file.as_str(), "no page of this folder uses it")
 }
 
 /// Adds the templates and partials that no page reaches.

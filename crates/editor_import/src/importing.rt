@@ -74,7 +74,7 @@ fn tell_too_long<E: Write>(
         err,
         format!(in alloc;
             "pages too long: {count}. If each page repeats the navigation of the whole site, have the \
-             generator write less of it (fewer levels, or the section of the page alone), and import again. \
+             generator write less of it (fewer levels, or only the section of the page), and import again. \
              Or nginx shows these pages beside the others: docs/GUIDE.md, \"From another generator\""
         ),
     )?)

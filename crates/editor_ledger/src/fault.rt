@@ -40,7 +40,7 @@ pub enum LedgerReadFault {
         away (log, restore and publish --release need it), and publish with --take-over")]
     Line(usize),
     /// Each line is one of a ledger, but the sum in the last line is another one's.
-    #[error("this is not what sitepub wrote, as the sum in its last line tells: restore the file from a \
+    #[error("this is not what sitepub wrote, as the sum in its last line shows: restore the file from a \
         copy. Or move it away (log, restore and publish --release need it), and publish with --take-over")]
     Sum,
     #[error("out of memory")]

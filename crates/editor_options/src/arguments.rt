@@ -33,11 +33,7 @@ pub(crate) fn flag<'a>(alloc: Global, name: &'static str, help: &'static str) ->
 }
 
 pub(crate) fn ignore_flag<'a>(alloc: Global) -> Arg<'a> {
-    flag(
-        alloc,
-        "ignore",
-        "Passes over files that are no part of a site",
-    )
+    flag(alloc, "ignore", "Ignores files that are no part of a site")
 }
 
 /// A word that takes one argument more, if the word could be made.

@@ -116,7 +116,7 @@ fn patience_option<'a>(alloc: Global) -> Arg<'a> {
         alloc,
         "patience",
         "SECONDS",
-        "Gives up if so many seconds pass without progress; 60 by default",
+        "Gives up if this many seconds pass without progress; 60 by default",
     )
     .value_parser(clap::value_parser!(u64))
 }

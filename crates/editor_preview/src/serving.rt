@@ -31,7 +31,7 @@ fn listen<N: Net<Listener = TcpListener, Stream = TcpStream>>(
 ) -> Result<TcpListener, EditorFault> {
     let Ok(address) = http.parse::<SocketAddr>() else {
         return Err(EditorFault::Stop(format!(in alloc;
-            "{http}: an IP address and a port are wanted, as 127.0.0.1:8000"
+            "{http}: give an IP address and a port, as 127.0.0.1:8000"
         )?));
     };
     match bind(net, address) {

@@ -60,13 +60,14 @@ pub(crate) fn commands_of(ledger: &Ledger, ticket: u64) -> u64
 
 /// Why a publication stops at a node that does not report its newest release.
 pub(crate) fn untold(alloc: Global, url: &str) -> Result<EditorFault, AllocError> {
-    Ok(EditorFault::Stop(format!(in alloc; "{url}: does not tell its newest release")?))
+    Ok(EditorFault::Stop(format!(in alloc; "{url}: does not report its newest release")?))
 }
 
 /// Why a publication stops at a node that made a release and does not report its number.
 pub(crate) fn unnumbered(alloc: Global, url: &str) -> Result<EditorFault, AllocError> {
     Ok(EditorFault::Stop(format!(in alloc;
-        "{url}: does not tell the number of the release that was made: run it again, and it stands in the log"
+        "{url}: does not report the number of the release that was made: run it again, and the number is in \
+         the log"
     )?))
 }
 

@@ -306,7 +306,7 @@ pub(crate) fn refusal_of(alloc: Global, taken: &Taken) -> Result<Option<EditorFa
         return Ok(Some(EditorFault::Stop(format!(in alloc;
             "{nothing} was sent: the group has release {release}, and nothing in it is known to be from this \
              folder. If others have templates, partials or data of the same names, this folder would replace \
-             them, which no node tells. With --take-over it does"
+             them: no node says which names others use. With --take-over it does"
         )?)));
     }
     if taken.paths.is_empty() {

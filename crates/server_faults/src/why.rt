@@ -64,7 +64,7 @@ fn tell_cause<E: Write>(
 fn wrong_with(fault: RecordFault, cause: &Cause, above: bool) -> &'static str {
     match fault {
         RecordFault::NotARecord if above => {
-            "there is a file already, and --above makes a record in an empty or absent one alone"
+            "there is a file already: --above makes a record only in an empty or absent one"
         }
         RecordFault::NotARecord => "empty, or another file",
         RecordFault::WrongNode => "of another node, or of another number of nodes",
@@ -97,29 +97,26 @@ fn first_bad<'a>(options: &ServeOptions<'a>) -> &'a str {
 fn bad_word<'a>(options: &ServeOptions<'a>) -> (&'a str, &'static str) {
     let size = options.peers.len();
     if size == 0 || size > MAX_NODES as usize {
-        return ("ADDRESS..", "those of one to nine nodes are wanted");
+        return ("ADDRESS..", "give those of one to nine nodes");
     }
     if options.id == 0 || usize::from(options.id) > size {
-        return (
-            "--id",
-            "none of the nodes, which the addresses number from 1",
-        );
+        return ("--id", "no such node: the addresses number them from 1");
     }
     (
         first_bad(options),
-        "an IP address and a port are wanted, and names are not resolved",
+        "give an IP address and a port: names are not resolved",
     )
 }
 
 /// Why reaches give no floor.
 fn wrong_with_reaches(fault: FloorFault) -> &'static str {
     match fault {
-        FloorFault::NotTold => "a node, a colon and its reach are wanted, as 2:57",
-        FloorFault::NotAnother => "reaches of other nodes of the group are wanted",
+        FloorFault::NotTold => "give a node, a colon and its reach, as 2:57",
+        FloorFault::NotAnother => "give reaches of other nodes of the group",
         FloorFault::Twice => "a node stands there twice",
-        FloorFault::TooFew => "reaches of more than half of the group's nodes are wanted",
+        FloorFault::TooFew => "give the reaches of more than half of the group's nodes",
         FloorFault::TooFar => "no instance is left above such a reach",
-        FloorFault::OutOfMemory => "memory is wanted",
+        FloorFault::OutOfMemory => "an allocation failed",
     }
 }
 

@@ -176,7 +176,7 @@ const FILES: &[(&str, &[u8], &str)] = &[
     (
         "redirects",
         b"/a\n/a b\n/a //b\n/@a /b\n/a /a\n/a /b c\n/a /c\n",
-        "redirects:1:1: a line is PATH TARGET, two words\nredirects:2:1: a path and its target begin with /, with neither /_ nor /@, have 200 bytes at most, and no blank; a target begins with one / alone\nredirects:3:1: a path and its target begin with /, with neither /_ nor /@, have 200 bytes at most, and no blank; a target begins with one / alone\nredirects:4:1: a path and its target begin with /, with neither /_ nor /@, have 200 bytes at most, and no blank; a target begins with one / alone\nredirects:6:1: a line is PATH TARGET, two words\nredirects:7:1: the redirect /a stands in line 5 already: take one of both away\nredirects:7:1: warning: no route of this folder has the path /c\n",
+        "redirects:1:1: a line is PATH TARGET, two words\nredirects:2:1: a path and its target begin with /, with neither /_ nor /@, have 200 bytes at most, and no blank; a target begins with only one /\nredirects:3:1: a path and its target begin with /, with neither /_ nor /@, have 200 bytes at most, and no blank; a target begins with only one /\nredirects:4:1: a path and its target begin with /, with neither /_ nor /@, have 200 bytes at most, and no blank; a target begins with only one /\nredirects:6:1: a line is PATH TARGET, two words\nredirects:7:1: the redirect /a stands in line 5 already: take one of both away\nredirects:7:1: warning: no route of this folder has the path /c\n",
     ),
     (
         "removes",

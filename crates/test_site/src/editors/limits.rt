@@ -47,11 +47,11 @@ const DEAR: &[(&str, &[u8])] = &[
 const ROWS: &[(&[(&str, &[u8])], &str)] = &[
     (
         ENDLESS,
-        "routes:2:1: /: page over limit: the partial p comes to call itself, and partials may nest 32 deep: let data end that (an empty list in the innermost item), or take the call away; where they end it, it costs more than 1,000,000 (each tag, each item of a list and each byte printed is 1): part it, or shorten its lists\n",
+        "routes:2:1: /: page over limit: the partial p ends up calling itself, and partials may nest 32 deep: let data end that (an empty list in the innermost item), or take the call away; if they end it, it costs more than 1,000,000 (each tag, each item of a list and each byte printed is 1): part it, or shorten its lists\n",
     ),
     (
         ROUND,
-        "routes:1:1: /: page over limit: the partial p comes to call itself, and partials may nest 32 deep: let data end that (an empty list in the innermost item), or take the call away; where they end it, it costs more than 1,000,000 (each tag, each item of a list and each byte printed is 1): part it, or shorten its lists\n",
+        "routes:1:1: /: page over limit: the partial p ends up calling itself, and partials may nest 32 deep: let data end that (an empty list in the innermost item), or take the call away; if they end it, it costs more than 1,000,000 (each tag, each item of a list and each byte printed is 1): part it, or shorten its lists\n",
     ),
     (
         DEAR,
@@ -97,7 +97,7 @@ const DEPTHS: &[(u32, &str)] = &[
     (32, ""),
     (
         33,
-        "routes:1:1: /: page over limit: its partials can nest 33 deep, and may 32 deep: put inner ones into those that call them; where data keep them from it, it costs more than 1,000,000 (each tag, each item of a list and each byte printed is 1): part it, or shorten its lists\n",
+        "routes:1:1: /: page over limit: its partials can nest 33 deep, and may 32 deep: put inner ones into those that call them; if data keep them from it, it costs more than 1,000,000 (each tag, each item of a list and each byte printed is 1): part it, or shorten its lists\n",
     ),
 ];
 

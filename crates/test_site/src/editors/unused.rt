@@ -19,10 +19,10 @@ const HALF: &[(&str, &[u8])] = &[
     ("templates/u.mustache", b"{{>round}}"),
 ];
 
-const TOLD: &str = "templates/u.mustache: warning: no page of this folder comes to it
-partials/lost.mustache: warning: no page of this folder comes to it
-partials/round.mustache: warning: no page of this folder comes to it
-data/b.json: warning: no page of this folder comes to it
+const TOLD: &str = "templates/u.mustache: warning: no page of this folder uses it
+partials/lost.mustache: warning: no page of this folder uses it
+partials/round.mustache: warning: no page of this folder uses it
+data/b.json: warning: no page of this folder uses it
 ";
 
 fn is_unused(rt: &impl Abort, alloc: Global, folder: &Folder, lines: &str) {
