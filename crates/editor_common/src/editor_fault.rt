@@ -16,6 +16,9 @@ pub enum EditorFault {
     /// Why a group or a ledger stops a word, and what to do.
     #[error("{0}")]
     Stop(String),
+    /// The folder that has no release.
+    #[error("{0}: nothing was published from here")]
+    Unpublished(String),
     #[error("the numbers of the commands of this editor are used up: move the file published away (log, \
         restore and publish --release need it), and publish with --take-over")]
     NoTickets,

@@ -79,10 +79,8 @@ fn ledger_there<R: Files + RandomSource + AllocGlobal>(
 ) -> Result<Ledger, EditorFault> {
     let ledger = ledger_of(rt, how.folder, how.editor)?;
     if ledger.next() == 1 {
-        let folder = how.folder;
-        return Err(EditorFault::Stop(format!(in rt.alloc();
-            "{folder}: nothing was published from here"
-        )?));
+        let folder = String::from_str(rt.alloc(), how.folder)?;
+        return Err(EditorFault::Unpublished(folder));
     }
     Ok(ledger)
 }

@@ -1,5 +1,5 @@
 //! The releases of a folder.
-use editor_common::{EditorFault, Outcome, say};
+use editor_common::{EditorFault, Outcome, say, say_made};
 use editor_files::read_ledger;
 use editor_ledger::{Ledger, Released};
 use jiff::Timestamp;
@@ -90,8 +90,8 @@ fn tell_all<W: Write>(
 }
 
 fn tell_none<E: Write>(alloc: Global, err: &mut E, folder: &str) -> Result<(), EditorFault> {
-    let line = format!(in alloc; "{folder}: nothing was published from here")?;
-    Ok(say(err, line.as_str())?)
+    let why = EditorFault::Unpublished(String::from_str(alloc, folder)?);
+    Ok(say_made(err, format!(in alloc; "{why}"))?)
 }
 
 /// Writes the releases that were made of a folder, the oldest first, and returns the exit status. The outcome

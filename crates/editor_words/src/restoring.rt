@@ -8,11 +8,6 @@ use std::alloc::{AllocError, Global};
 use std::io::Write;
 use std::rt::Files;
 
-/// Why a folder has no release.
-fn unpublished(alloc: Global, folder: &str) -> Result<EditorFault, AllocError> {
-    Ok(EditorFault::Stop(format!(in alloc; "{folder}: nothing was published from here")?))
-}
-
 /// Why a file is not written: it is not one of a site's files.
 fn foreign(alloc: Global, folder: &str, path: &str) -> Result<EditorFault, AllocError> {
     Ok(EditorFault::Stop(format!(in alloc; "{folder}/published: {path} is no file of a site")?))
@@ -67,6 +62,6 @@ pub fn restore<R: Files + AllocGlobal + Clone + Drop, E: Write>(
             write_release(rt, folder, &ledger, release, to)?;
             Ok(0)
         }
-        None => Err(unpublished(rt.alloc(), folder)?),
+        None => Err(EditorFault::Unpublished(String::from_str(rt.alloc(), folder)?)),
     }
 }

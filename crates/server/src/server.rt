@@ -200,14 +200,6 @@ impl<D: Disk + Drop, S: Drop> Server<D, S> {
         })
     }
 
-    /// The node, and nothing else.
-    pub fn into_served(self) -> Served<D>
-        ensures { result ≡ self.served }
-    {
-        let Server { served, .. } = self;
-        served
-    }
-
     /// Whether datagrams came for a step, or wait for the next one.
     fn has_come(&self, stepped: Stepped) -> bool
         ensures { result ≡ has_come stepped.came (waiting_of self.now.mail) }

@@ -100,13 +100,6 @@ impl Delivered {
         &self.questions
     }
 
-    /// The instance that the node's last question was for, if it asked.
-    pub fn question_of(&self, node: NodeId) -> Option<Instance>
-        ensures { result ≡ get_or self.now.questions (node - 1) None }
-    {
-        self.questions[usize::from(node.number()) - 1]
-    }
-
     /// How many were of an attempt: a prepare, a promise or a proposal.
     pub fn attempts(&self) -> u32
         ensures { result ≡ self.now.attempts }

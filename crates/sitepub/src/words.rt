@@ -39,9 +39,7 @@ fn tell<W: Write, L: Display>(out: &mut W, line: &L, status: u8) -> u8 {
 fn unpublished<R: Files + AllocGlobal>(rt: &R, folder: &str) -> Result<EditorFault, AllocError> {
     let alloc = rt.alloc();
     match fs::metadata(rt, folder) {
-        Ok(_) => Ok(EditorFault::Stop(format!(in alloc;
-            "{folder}: nothing was published from here"
-        )?)),
+        Ok(_) => Ok(EditorFault::Unpublished(String::from_str(alloc, folder)?)),
         Err(fault) => Ok(EditorFault::at_path(alloc, folder, fault)),
     }
 }

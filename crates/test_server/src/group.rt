@@ -67,7 +67,8 @@ pub(crate) fn reopened(
 ) -> Option<Boxed>
     requires { IsNode cluster me }
 {
-    let mut disk = Box::into_inner(server).into_served().node.close();
+    let Server { served: before, .. } = Box::into_inner(server);
+    let mut disk = before.node.close();
     if let Some(choice) = crash {
         disk.crash(choice);
     }

@@ -164,11 +164,10 @@ fn posts_many(rt: &impl Abort, server: &DrivenNode<MemLink>, count: usize) {
 }
 
 /// The instance that a node asked for last, or 0.
-fn question(rt: &impl Abort, server: &DrivenNode<MemLink>, number: u8) -> u32 {
-    let node = node_of(rt, server.node.cluster(), number);
-    match server.desk.delivered().question_of(node) {
-        Some(at) => at.number(),
-        None => 0,
+fn question(server: &DrivenNode<MemLink>, place: usize) -> u32 {
+    match server.desk.delivered().questions().get(place) {
+        Some(Some(at)) => at.number(),
+        _ => 0,
     }
 }
 
@@ -176,7 +175,7 @@ fn question(rt: &impl Abort, server: &DrivenNode<MemLink>, number: u8) -> u32 {
 fn delivered(rt: &impl Abort, server: &DrivenNode<MemLink>, wanted: (u32, u32, u32)) {
     let delivered = server.desk.delivered();
     let counts = (delivered.attempts(), delivered.stirs());
-    let questions = (question(rt, server, 1), question(rt, server, 3));
+    let questions = (question(server, 0), question(server, 2));
     let (attempts, stirs, asked) = wanted;
     same(rt, (counts, questions), ((attempts, stirs), (0, asked)));
 }
