@@ -55,14 +55,13 @@ module _ {D : Type 0} (stands_for : D → DiskState → Type 0) (failed : D → 
       more : (entries : List Entry) → IsKept entries old.recorded → IsKept (entries ++ entry ∷ []) r
       more entries kept = kept_more entries entry app.recorded r (follows entries kept).advances remembers (kept_same entries old.recorded app.recorded same_memory kept)
 
-      put : IsPut failed old new entry
+      put : IsPut old new entry
       put = record {
         follows = follows;
         remembers = remembers_through entry old.recorded app.recorded r same_memory remembers;
         kept = more;
         gate = omega (arith, same_gate, ap (λ (x : Recorded). x.gate) writes.recorded, ap length is, block_size);
-        running = writes.running.0;
-        none_failed = writes.running.1;
+        running = writes.running;
       }
 
       acknowledged : Acknowledges stands_for old new entry
@@ -80,6 +79,7 @@ module _ {D : Type 0} (stands_for : D → DiskState → Type 0) (failed : D → 
         put = put;
         acknowledged = acknowledged;
         cut_short = λ device. cc;
+        counts = writes.counts;
         was_stopped = (λ stopped. cc, λ stopped. not_both stopped running);
         full = (λ full. cc, λ full. absurd (room full.1));
         others = tt;

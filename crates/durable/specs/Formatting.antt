@@ -1,12 +1,24 @@
 -- How the record is made that takes the place of a lost one. A crash at any moment leaves no record without
 -- its floor.
-use Rattle.std.specs.Prelude.{◌≡◌, ◌⊎◌, ℕ, ◌+◌, List, [], ◌∷◌, ◌++◌, length}
+use Rattle.std.specs.Prelude.{◌≡◌, ◌⊎◌, ℕ, ◌+◌, ◌<◌, List, [], ◌∷◌, ◌++◌, length, Result, OnErr, IsErrOf}
 use Rattle.site_disk.specs.Model.{DiskState, LeavesOnly}
 use Rattle.durable.specs.Append.{IsSettled}
+use Rattle.durable.specs.Counts.{CountsFault}
 use Rattle.durable.specs.Entries.{Floor}
 use Rattle.durable.specs.Items.{summed}
 use Rattle.durable.specs.Spelling.{head, blocks}
 use Rattle.durable.specs.Standing.{StandsFor, IsNoRecord}
+use Rattle.durable.specs.declared.fault.RecordFault.{RecordFault}
+use Rattle.durable.specs.declared.fault.RecordFault.TheVariants.{Device, NotARecord}
+
+-- A file with bytes is refused and stays as it is. The only other fault is the device's, and it is counted
+pub record FormatsOnlyEmpty {D : Type 0} (stands_for : D → DiskState → Type 0) (failed : D → ℕ) (old new : D)
+    (result : Result (Unit {0}) RecordFault) : Type 0 where
+  pub untouched : OnErr result ((d : DiskState) → stands_for old d → 0 < length d.seen → stands_for new d)
+  pub not_empty : IsErrOf result NotARecord
+      → (d : DiskState) → stands_for old d → stands_for new d × (0 < length d.seen)
+  pub counts : CountsFault Device result (failed old) (failed new)
+  pub others : OnErr result (IsErrOf result NotARecord ⊎ IsErrOf result Device)
 
 -- the head with zeros for its mark: too short for a record, and without the mark
 abbrev pub blank_head : ℕ → ℕ → List ℕ

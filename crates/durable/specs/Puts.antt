@@ -1,11 +1,12 @@
 -- What a put of one entry returns, and what is on record after it.
-use Rattle.std.specs.Prelude.{◌≡◌, ◌≢◌, ◌⊎◌, ◌↔◌, ℕ, ◌+◌, ◌-◌, ◌<◌, ◌^◌, max, List, [], ◌∷◌, ◌++◌, length}
+use Rattle.std.specs.Prelude.{◌≡◌, ◌≢◌, ◌⊎◌, ◌↔◌, ℕ, ◌+◌, ◌<◌, max, List, [], ◌∷◌, ◌++◌, length}
 use Rattle.std.specs.Prelude.{false, true, Some, Result, OnOk, OnErr, IsErrOf}
 use Rattle.site_ids.specs.declared.TheConstants.{MAX_RECORD}
 use Rattle.site_disk.specs.Model.{DiskState, LeavesOnly}
 use Rattle.acceptor.specs.Steps.{with_promise, with_vote}
 use Rattle.site_ids.specs.Spans.{IsInSpan}
 use Rattle.durable.specs.Append.{IsOpenAt}
+use Rattle.durable.specs.Counts.{CountsFault}
 use Rattle.durable.specs.Raising.{IsRaised}
 use Rattle.durable.specs.Entries.{Entry, Round, Promised, PromisedSpan, Voted, Learned, Floor, round_after}
 use Rattle.durable.specs.Entries.{round_in, floor_of, reach_in}
@@ -86,25 +87,24 @@ pub record Writes {D : Type 0} (stands_for : D → DiskState → Type 0) (failed
   pub appends : OnOk result (Appends stands_for old new bytes)
   pub stages : OnOk result (Stages stands_for old new bytes)
   pub recorded : OnOk result (new.recorded ≡ record old.recorded { gate = old.recorded.gate + length bytes })
-  pub running : OnOk result ((new.stopped ≡ false) × (failed new.disk ≡ failed old.disk))
+  pub running : OnOk result (new.stopped ≡ false)
+  pub counts : CountsFault Device result (failed old.disk) (failed new.disk)
   pub breaks_off : IsErrOf result Device → BreaksOff stands_for old new bytes × (new.stopped ≡ true)
-      × (new.recorded ≡ old.recorded) × ((failed old.disk < failed new.disk) ⊎ (failed old.disk ≡ 2 ^ 64 - 1))
+      × (new.recorded ≡ old.recorded)
   pub no_memory : IsErrOf result OutOfMemory → IsBatchOpen old × IsUnchanged old new
   pub others : OnErr result (IsErrOf result Device ⊎ IsErrOf result OutOfMemory)
   pub batched : IsBatchOpen old → (new.disk ≡ old.disk) × (¬ IsErrOf result Device)
   pub same_mode : IsBatchOpen new ↔ IsBatchOpen old
   pub whose : (new.node ≡ old.node) × (new.cluster ≡ old.cluster)
 
--- A put of the entry has succeeded, over any disk: the record runs and keeps the entry in memory, and no call
--- of the disk has failed.
-pub record IsPut {D : Type 0} (failed : D → ℕ) (old new : Record D) (entry : Entry) : Type 0 where
+-- a put of the entry has succeeded, over any disk: the record runs and keeps the entry in memory
+pub record IsPut {D : Type 0} (old new : Record D) (entry : Entry) : Type 0 where
   pub follows : (entries : List Entry) → IsKept entries old.recorded → MayFollow old.cluster entries entry
   pub remembers : Remembers old.recorded new.recorded entry
   pub kept : (entries : List Entry) → IsKept entries old.recorded
       → IsKept (entries ++ entry ∷ []) new.recorded
   pub gate : new.recorded.gate ≡ old.recorded.gate + length (block entry)
   pub running : new.stopped ≡ false
-  pub none_failed : failed new.disk ≡ failed old.disk
 
 -- A put of the entry has succeeded: the record is ready with one more entry, after two writes and two syncs.
 -- At the gate are the entry and the next closed gate. A crash at any moment since then leaves the entries,
@@ -125,13 +125,11 @@ LeavesInFlight stands_for old new entry = (d : DiskState) (entries : List Entry)
     × LeavesOnly d e (IsFound old.node old.cluster entries (Some entry))
     × Keeps old.node old.cluster entries (Some entry) e
 
--- The device failed in a put of the entry, and the failure is counted: the record stops, and the entry is in
--- flight.
-pub record IsCutShort {D : Type 0} (stands_for : D → DiskState → Type 0) (failed : D → ℕ) (old new : Record D)
+-- the device failed in a put of the entry: the record stops, and the entry is in flight
+pub record IsCutShort {D : Type 0} (stands_for : D → DiskState → Type 0) (old new : Record D)
     (entry : Entry) : Type 0 where
   pub follows : (entries : List Entry) → IsKept entries old.recorded → MayFollow old.cluster entries entry
   pub stops : new.stopped ≡ true
-  pub counted : (failed old.disk < failed new.disk) ⊎ (failed old.disk ≡ 2 ^ 64 - 1)
   pub in_flight : LeavesInFlight stands_for old new entry
 
 -- the file would pass its limit with the entry
@@ -148,9 +146,10 @@ pub record IsBatched {D : Type 0} (stands_for : D → DiskState → Type 0) (old
 -- A put of the entry. Stopped comes before Full, Full before a failed allocation, and that before any write.
 pub record Puts {D : Type 0} (stands_for : D → DiskState → Type 0) (failed : D → ℕ) (old new : Record D)
     (entry : Entry) (result : Result (Unit {0}) RecordFault) : Type 0 where
-  pub put : OnOk result (IsPut failed old new entry)
+  pub put : OnOk result (IsPut old new entry)
   pub acknowledged : OnOk result (Acknowledges stands_for old new entry)
-  pub cut_short : IsErrOf result Device → IsCutShort stands_for failed old new entry
+  pub cut_short : IsErrOf result Device → IsCutShort stands_for old new entry
+  pub counts : CountsFault Device result (failed old.disk) (failed new.disk)
   pub was_stopped : IsErrOf result Stopped ↔ (old.stopped ≡ true)
   pub full : IsErrOf result Full ↔ ((old.stopped ≡ false) × IsFullFor old entry)
   pub others : OnErr result (IsErrOf result Device

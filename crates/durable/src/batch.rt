@@ -2,7 +2,7 @@
 //!
 //! Each put allocates for its own entry. A batch that is open stays open if another one is begun.
 
-ghost use Rattle.std.specs.Prelude.{◌≡◌, ◌⊎◌, ◌↔◌, ◌+◌, ◌-◌, ◌<◌, ◌≤◌, ◌^◌, ◌∷◌, [], IsOk, IsErrOf, OnOk};
+ghost use Rattle.std.specs.Prelude.{◌≡◌, ◌⊎◌, ◌↔◌, ◌+◌, ◌<◌, ◌≤◌, ◌^◌, ◌∷◌, [], IsOk, IsErrOf, OnOk};
 ghost use Rattle.std.specs.Prelude.{OnErr, length, false, true};
 
 use crate::append::append;
@@ -13,6 +13,7 @@ use std::alloc::AllocError;
 
 impl<D: Disk> Record<D> {
     ghost use Rattle.durable.specs.Batches.{IsBatchOpen, Begins, Stages, Seals, LeavesBatch};
+    ghost use Rattle.durable.specs.Counts.{CountsFault};
     ghost use Rattle.durable.specs.Ready.{IsUnchanged};
 
     /// Opens a batch. Until it is sealed, a put takes its entry into memory only, and the node may send
@@ -41,11 +42,11 @@ impl<D: Disk> Record<D> {
     /// stops, its memory stays ahead of the disk, and only the next opening shows which.
     pub fn seal(&mut self) -> Result<(), RecordFault>
         ensures sealed { OnOk result (Seals D.stands_for self.old self.new) }
-        ensures closed { OnOk result ((self.new.staged.bytes.items ≡ []) × (self.new.stopped ≡ false)
-            × (D.failed self.new.disk ≡ D.failed self.old.disk)) }
+        ensures closed { OnOk result ((self.new.staged.bytes.items ≡ []) × (self.new.stopped ≡ false)) }
         ensures none { length self.old.staged.bytes.items ≤ 19 → self.new.disk ≡ self.old.disk }
-        ensures cut_short { IsErrOf result RecordFault.Device → LeavesBatch D.stands_for self.old self.new
-            × ((D.failed self.old.disk < D.failed self.new.disk) ⊎ (D.failed self.old.disk ≡ 2 ^ 64 - 1)) }
+        ensures cut_short { IsErrOf result RecordFault.Device → LeavesBatch D.stands_for self.old self.new }
+        ensures counts { CountsFault RecordFault.Device result
+            (D.failed self.old.disk) (D.failed self.new.disk) }
         ensures was_stopped { IsErrOf result RecordFault.Stopped ↔ (self.old.stopped ≡ true) }
         ensures refused { IsErrOf result RecordFault.Stopped → self.new ≡ self.old }
         ensures others { OnErr result (IsErrOf result RecordFault.Stopped

@@ -4,9 +4,9 @@
 //! after a gate that isn't open, a whole batch with its right sum and an open gate after it: an accident shut
 //! the first gate.
 
-ghost use Rattle.std.specs.Prelude.{◌≡◌, ◌⊎◌, ◌↔◌, ◌-◌, ◌<◌, ◌≤◌, ◌^◌, length};
-ghost use Rattle.std.specs.Prelude.{IsTrue, IfOk, OnOk, OnErr, IsErrOf};
+ghost use Rattle.std.specs.Prelude.{◌≡◌, ◌⊎◌, ◌↔◌, length, IsTrue, IfOk, OnErr, IsErrOf};
 ghost use Rattle.site_disk.specs.Model.{DiskState};
+ghost use Rattle.durable.specs.Counts.{CountsFault};
 ghost use Rattle.durable.specs.Cutting.{HasBatchAfter, IsCutShort};
 
 use crate::RecordFault;
@@ -27,10 +27,7 @@ fn has_batch_after<D: Disk>(
         → IsTrue told ↔ HasBatchAfter gate d.seen) }
     ensures others { OnErr result (IsErrOf result RecordFault.Device
         ⊎ IsErrOf result RecordFault.OutOfMemory) }
-    ensures none_failed { OnOk result (D.failed disk.new ≡ D.failed disk.old) }
-    ensures no_fewer { D.failed disk.old ≤ D.failed disk.new }
-    ensures cause { IsErrOf result RecordFault.Device
-        → (D.failed disk.old < D.failed disk.new) ⊎ (D.failed disk.old ≡ 2 ^ 64 - 1) }
+    ensures counts { CountsFault RecordFault.Device result (D.failed disk.old) (D.failed disk.new) }
 {
     let left = len.saturating_sub(gate);
     if left <= SUM_BLOCK as u64 {
@@ -68,10 +65,7 @@ pub(crate) fn is_cut_short<D: Disk>(
         → IsTrue told ↔ IsCutShort gate d.seen) }
     ensures others { OnErr result (IsErrOf result RecordFault.Device
         ⊎ IsErrOf result RecordFault.OutOfMemory) }
-    ensures none_failed { OnOk result (D.failed disk.new ≡ D.failed disk.old) }
-    ensures no_fewer { D.failed disk.old ≤ D.failed disk.new }
-    ensures cause { IsErrOf result RecordFault.Device
-        → (D.failed disk.old < D.failed disk.new) ⊎ (D.failed disk.old ≡ 2 ^ 64 - 1) }
+    ensures counts { CountsFault RecordFault.Device result (D.failed disk.old) (D.failed disk.new) }
 {
     if !has_batch_after(alloc, disk, gate, len)? {
         return Ok(false);

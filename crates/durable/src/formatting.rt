@@ -2,11 +2,11 @@
 //!
 //! The mark comes last: until the floor is on the disk, the file is no record.
 
-ghost use Rattle.std.specs.Prelude.{◌≡◌, ◌⊎◌, ◌+◌, ◌-◌, ◌<◌, ◌^◌, [], IsErrOf, OnOk, OnErr, length};
+ghost use Rattle.std.specs.Prelude.{◌≡◌, ◌+◌, [], OnOk, OnErr, length};
 ghost use Rattle.site_disk.specs.Model.{DiskState, LeavesOnly, CountsFailure};
 ghost use Rattle.durable.specs.Append.{IsSettled};
 ghost use Rattle.durable.specs.Standing.{IsNoRecord};
-ghost use Rattle.durable.specs.Formatting.{blank_head, FormatsAbove, FormatsInPart};
+ghost use Rattle.durable.specs.Formatting.{blank_head, FormatsAbove, FormatsInPart, FormatsOnlyEmpty};
 
 use crate::append::write_through;
 use crate::record::MARK;
@@ -50,15 +50,7 @@ impl<D: Disk> Record<D> {
     ) -> Result<(), RecordFault>
         ensures formatted { OnOk result (FormatsAbove D.stands_for disk.old disk.new node cluster floor) }
         ensures in_part { OnErr result (FormatsInPart D.stands_for disk.old disk.new node cluster floor) }
-        ensures untouched { OnErr result ((d : DiskState) → D.stands_for disk.old d → 0 < length d.seen
-            → D.stands_for disk.new d) }
-        ensures not_empty { IsErrOf result RecordFault.NotARecord → (d : DiskState) → D.stands_for disk.old d
-            → D.stands_for disk.new d × (0 < length d.seen) }
-        ensures cause { IsErrOf result RecordFault.Device → (D.failed disk.old < D.failed disk.new)
-            ⊎ (D.failed disk.old ≡ 2 ^ 64 - 1) }
-        ensures none_failed { OnOk result (D.failed disk.new ≡ D.failed disk.old) }
-        ensures others { OnErr result (IsErrOf result RecordFault.NotARecord
-            ⊎ IsErrOf result RecordFault.Device) }
+        ensures only_empty { FormatsOnlyEmpty D.stands_for D.failed disk.old disk.new result }
     {
         if disk.len()? != 0 {
             return Err(RecordFault::NotARecord);

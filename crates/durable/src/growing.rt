@@ -3,10 +3,11 @@
 //! A sync after a write that makes the file longer also writes the file system's journal. So a record's file
 //! grows before that is needed, and a batch is written over zeros.
 
-ghost use Rattle.std.specs.Prelude.{◌≡◌, ◌⊎◌, ◌↔◌, ◌-◌, ◌<◌, ◌^◌, [], true, false, IsTrue, IfOk, OnErr};
-ghost use Rattle.std.specs.Prelude.{IsErrOf, OnOk, replicate};
+ghost use Rattle.std.specs.Prelude.{◌≡◌, ◌⊎◌, ◌↔◌, [], true, false, IsTrue, IfOk, OnErr, IsErrOf, OnOk};
+ghost use Rattle.std.specs.Prelude.{replicate};
 ghost use Rattle.site_disk.specs.Model.{DiskState, LeavesOnly, CountsFailure};
 ghost use Rattle.durable.specs.Append.{IsSettled};
+ghost use Rattle.durable.specs.Counts.{CountsFault};
 ghost use Rattle.durable.specs.Growing.{GoesOnAs, with_zeros, length_for};
 
 use crate::{Record, RecordFault};
@@ -59,12 +60,12 @@ impl<D: Disk> Record<D> {
     pub fn grow(&mut self, room: u64) -> Result<bool, RecordFault>
         ensures grown { IfOk result (λ there.
             Grows D.stands_for self.old self.new (length_for self.old.recorded.gate room) there) }
-        ensures none_failed { OnOk result (D.failed self.new.disk ≡ D.failed self.old.disk) }
+        ensures counts { CountsFault RecordFault.Device result
+            (D.failed self.old.disk) (D.failed self.new.disk) }
         ensures batched { IsBatchOpen self.old → (self.new ≡ self.old) × ¬ IsErrOf result RecordFault.Device
             × IfOk result (λ there. ¬ IsTrue there) }
         ensures failed { IsErrOf result RecordFault.Device → KeepsAll D.stands_for self.old self.new
-            × (self.old.stopped ≡ false) × (self.new.stopped ≡ true)
-            × ((D.failed self.old.disk < D.failed self.new.disk) ⊎ (D.failed self.old.disk ≡ 2 ^ 64 - 1)) }
+            × (self.old.stopped ≡ false) × (self.new.stopped ≡ true) }
         ensures was_stopped { IsErrOf result RecordFault.Stopped ↔ (self.old.stopped ≡ true) }
         ensures refused { IsErrOf result RecordFault.Stopped → self.new ≡ self.old }
         ensures others { OnErr result (IsErrOf result RecordFault.Stopped

@@ -1,8 +1,8 @@
 //! Reads the file of a record: its head, its items, and what follows the gate at which they end.
 
-ghost use Rattle.std.specs.Prelude.{◌≡◌, ◌≢◌, ◌↔◌, ◌⊎◌, ◌-◌, ◌≤◌, ◌<◌, ◌^◌, List, length};
-ghost use Rattle.std.specs.Prelude.{IsErrOf, IsTrue, IfErr, IfOk, OnOk};
+ghost use Rattle.std.specs.Prelude.{◌≡◌, ◌≢◌, ◌↔◌, ◌⊎◌, ◌≤◌, List, length, IsTrue, IfErr, IfOk};
 ghost use Rattle.site_disk.specs.Model.{DiskState, after_sync};
+ghost use Rattle.durable.specs.Counts.{CountsFault};
 ghost use Rattle.durable.specs.Cutting.{IsCutShort};
 ghost use Rattle.durable.specs.Damage.{IsDamage};
 ghost use Rattle.durable.specs.Items.{Item};
@@ -26,9 +26,7 @@ fn read_head<D: Disk>(cluster: Cluster, node: NodeId, disk: &mut D) -> Result<u6
     ensures refused { IfErr result (λ fault. (d : DiskState) → D.stands_for disk.old d
         → (D.stands_for disk.new (after_sync d) ⊎ (D.stands_for disk.new d × (fault ≡ RecordFault.Device)))
         × IsRefusal fault node cluster d.seen × (fault ≢ RecordFault.Damaged)) }
-    ensures cause { IsErrOf result RecordFault.Device
-        → (D.failed disk.old < D.failed disk.new) ⊎ (D.failed disk.old ≡ 2 ^ 64 - 1) }
-    ensures none_failed { OnOk result (D.failed disk.new ≡ D.failed disk.old) }
+    ensures counts { CountsFault RecordFault.Device result (D.failed disk.old) (D.failed disk.new) }
 {
     disk.sync()?;
     let len = disk.len()?;
@@ -60,9 +58,7 @@ pub(crate) fn read<D: Disk>(
     ensures refused { IfErr result (λ fault. (d : DiskState) → D.stands_for disk.old d
         → (D.stands_for disk.new (after_sync d) ⊎ (D.stands_for disk.new d × (fault ≡ RecordFault.Device)))
         × IsRefusal fault node cluster d.seen) }
-    ensures cause { IsErrOf result RecordFault.Device
-        → (D.failed disk.old < D.failed disk.new) ⊎ (D.failed disk.old ≡ 2 ^ 64 - 1) }
-    ensures none_failed { OnOk result (D.failed disk.new ≡ D.failed disk.old) }
+    ensures counts { CountsFault RecordFault.Device result (D.failed disk.old) (D.failed disk.new) }
 {
     let len = read_head(cluster, node, disk)?;
     let mut recorded = Recorded::new(alloc);
@@ -83,9 +79,7 @@ pub fn damage<D: Disk>(
         → D.stands_for disk.new (after_sync d) × IsDamage node cluster d.seen at) }
     ensures refused { IfErr result (λ fault. (d : DiskState) → D.stands_for disk.old d
         → IsRefusal fault node cluster d.seen × (fault ≢ RecordFault.Damaged)) }
-    ensures cause { IsErrOf result RecordFault.Device
-        → (D.failed disk.old < D.failed disk.new) ⊎ (D.failed disk.old ≡ 2 ^ 64 - 1) }
-    ensures none_failed { OnOk result (D.failed disk.new ≡ D.failed disk.old) }
+    ensures counts { CountsFault RecordFault.Device result (D.failed disk.old) (D.failed disk.new) }
 {
     let len = read_head(cluster, node, disk)?;
     let mut recorded = Recorded::new(alloc);

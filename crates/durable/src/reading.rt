@@ -3,10 +3,11 @@
 //! It reads pieces of 1 MB, and a longer one for a longer batch. The buffer is allocated after the head was
 //! read, so a file that is no record is refused without an allocation.
 
-ghost use Rattle.std.specs.Prelude.{⊤, ◌≡◌, ◌≢◌, ◌⊎◌, ◌+◌, ◌-◌, ◌≤◌, ◌<◌, ◌^◌, ◌++◌, ℕ, List, []};
+ghost use Rattle.std.specs.Prelude.{⊤, ◌≡◌, ◌≢◌, ◌⊎◌, ◌+◌, ◌≤◌, ◌<◌, ◌^◌, ◌++◌, ℕ, List, []};
 ghost use Rattle.std.specs.Prelude.{length, drop, max, min, true, false, None};
 ghost use Rattle.std.specs.Prelude.{IfOk, MatchOption, OnOk, OnErr, IsErrOf, IsTrue};
 ghost use Rattle.site_disk.specs.Model.{DiskState};
+ghost use Rattle.durable.specs.Counts.{CountsFault};
 ghost use Rattle.durable.specs.Entries.{Entry};
 ghost use Rattle.durable.specs.Damage.{IsDamagedAt};
 ghost use Rattle.durable.specs.Items.{Item};
@@ -58,11 +59,7 @@ pub(crate) fn read_items<D: Disk>(
         → len ≡ length d.seen → IsDamagedAt cluster recorded.new.gate d.seen }
     ensures others { OnErr result (IsErrOf result RecordFault.Device
         ⊎ (IsErrOf result RecordFault.OutOfMemory ⊎ IsErrOf result RecordFault.Damaged)) }
-    ensures none_failed { OnOk result (D.failed disk.new ≡ D.failed disk.old) }
-    ensures none_by_damage { IsErrOf result RecordFault.Damaged → D.failed disk.new ≡ D.failed disk.old }
-    ensures no_fewer { D.failed disk.old ≤ D.failed disk.new }
-    ensures cause { IsErrOf result RecordFault.Device
-        → (D.failed disk.old < D.failed disk.new) ⊎ (D.failed disk.old ≡ 2 ^ 64 - 1) }
+    ensures counts { CountsFault RecordFault.Device result (D.failed disk.old) (D.failed disk.new) }
 {
     let mut buffer = Vec::new(alloc);
     buffer.resize(len.min(PIECE) as usize, 0u8)?;
@@ -132,8 +129,7 @@ fn take_item(
 ) -> Result<Taken, RecordFault>
     requires fits { recorded.old.gate + length bytes.now < 2 ^ 64 }
     requires whole { (is_last ≡ true) ⊎ (32784 ≤ length bytes.now) }
-    ensures taken { IfOk result (λ taken.
-        TakesItem cluster bytes.now is_last recorded.old recorded.new taken) }
+    ensures taken { IfOk result (TakesItem cluster bytes.now is_last recorded.old recorded.new) }
     ensures damaged { IsErrOf result RecordFault.Damaged
         → (recorded.new.gate ≡ recorded.old.gate)
         × IsDamagedItem cluster bytes.now is_last recorded.old }
@@ -157,8 +153,7 @@ fn take_put(
     requires fits { recorded.old.gate + length bytes.now < 2 ^ 64 }
     requires whole { (is_last ≡ true) ⊎ (32784 ≤ length bytes.now) }
     requires unsummed { HasNoSum bytes.now }
-    ensures taken { IfOk result (λ taken.
-        TakesItem cluster bytes.now is_last recorded.old recorded.new taken) }
+    ensures taken { IfOk result (TakesItem cluster bytes.now is_last recorded.old recorded.new) }
     ensures damaged { IsErrOf result RecordFault.Damaged
         → (recorded.new.gate ≡ recorded.old.gate)
         × IsDamagedItem cluster bytes.now is_last recorded.old }
@@ -190,8 +185,7 @@ fn take_summed(
 ) -> Result<Taken, RecordFault>
     requires fits { recorded.old.gate + length bytes.now < 2 ^ 64 }
     requires at { IsSumAt bytes.now sum.size sum.sum }
-    ensures taken { IfOk result (λ taken.
-        TakesItem cluster bytes.now is_last recorded.old recorded.new taken) }
+    ensures taken { IfOk result (TakesItem cluster bytes.now is_last recorded.old recorded.new) }
     ensures damaged { IsErrOf result RecordFault.Damaged
         → (recorded.new.gate ≡ recorded.old.gate)
         × IsDamagedItem cluster bytes.now is_last recorded.old }

@@ -3,16 +3,17 @@
 //! Callers have to pass ballots whose node is of the `cluster`. No test reaches 4,294,967,295 bytes;
 //! `Puts.full` says what happens there.
 
-ghost use Rattle.std.specs.Prelude.{◌≡◌, ◌↔◌, ◌⊎◌, ◌+◌, ◌-◌, ◌≤◌, ◌<◌, ◌^◌, ◌∷◌, ◌++◌, [], ℕ, List, Option};
-ghost use Rattle.std.specs.Prelude.{option_copied, IsTrue, IsErrOf, OnOk, OnErr, IfOk, IfErr, length, false};
-ghost use Rattle.std.specs.Prelude.{true};
+ghost use Rattle.std.specs.Prelude.{◌≡◌, ◌↔◌, ◌⊎◌, ◌+◌, ◌≤◌, ◌∷◌, ◌++◌, [], ℕ, List, Option};
+ghost use Rattle.std.specs.Prelude.{option_copied, IsTrue, OnOk, IfOk, IfErr, false, true};
 ghost use Rattle.site_disk.specs.Model.{DiskState, after_sync};
 ghost use Rattle.durable.specs.Append.{IsSettled};
+ghost use Rattle.durable.specs.Counts.{IsCounted};
 ghost use Rattle.durable.specs.Entries.{Entry};
 ghost use Rattle.durable.specs.Spelling.{head};
 ghost use Rattle.durable.specs.Cutting.{IsCutShort};
 ghost use Rattle.durable.specs.Standing.{StandsFor, IsRefusal};
 ghost use Rattle.durable.specs.Keeping.{Keeps};
+ghost use Rattle.durable.specs.Formatting.{FormatsOnlyEmpty};
 
 use crate::RecordFault;
 use crate::opening::read;
@@ -62,15 +63,7 @@ impl<D: Disk> Record<D> {
         ensures formatted { OnOk result ((d : DiskState) → D.stands_for disk.old d → (d.seen ≡ [])
             × (e : DiskState) × D.stands_for disk.new e × IsSettled e × (e.seen ≡ head node cluster ++ 0 ∷ [])
             × StandsFor node cluster e.seen []) }
-        ensures untouched { OnErr result ((d : DiskState) → D.stands_for disk.old d → 0 < length d.seen
-            → D.stands_for disk.new d) }
-        ensures not_empty { IsErrOf result RecordFault.NotARecord → (d : DiskState) → D.stands_for disk.old d
-            → D.stands_for disk.new d × (0 < length d.seen) }
-        ensures cause { IsErrOf result RecordFault.Device → (D.failed disk.old < D.failed disk.new)
-            ⊎ (D.failed disk.old ≡ 2 ^ 64 - 1) }
-        ensures none_failed { OnOk result (D.failed disk.new ≡ D.failed disk.old) }
-        ensures others { OnErr result (IsErrOf result RecordFault.NotARecord
-            ⊎ IsErrOf result RecordFault.Device) }
+        ensures only_empty { FormatsOnlyEmpty D.stands_for D.failed disk.old disk.new result }
     {
         if disk.len()? != 0 {
             return Err(RecordFault::NotARecord);
@@ -90,7 +83,6 @@ impl<D: Disk> Record<D> {
             × IsOpened D.stands_for disk store entries) }
         ensures cut { IfOk result (λ store. (d : DiskState) → D.stands_for disk d
             → IsTrue store.cut_short ↔ IsCutShort store.recorded.gate d.seen) }
-        ensures none_failed { IfOk result (λ store. D.failed store.disk ≡ D.failed disk) }
         ensures whose { IfOk result (λ store. (store.node ≡ node) × (store.cluster ≡ cluster)) }
         ensures refused { IfErr result (λ p. (d : DiskState) → D.stands_for disk d
             → (D.stands_for p.1 (after_sync d) ⊎ (D.stands_for p.1 d × (p.0 ≡ RecordFault.Device)))
@@ -98,8 +90,9 @@ impl<D: Disk> Record<D> {
         ensures never { IfErr result (λ p. (d : DiskState) (entries : List Entry) (in_flight : Option Entry)
             → D.stands_for disk d → Keeps node cluster entries in_flight d → (p.0 ≡ RecordFault.Device)
             ⊎ (p.0 ≡ RecordFault.OutOfMemory)) }
-        ensures cause { IfErr result (λ p. p.0 ≡ RecordFault.Device → (D.failed disk < D.failed p.1)
-            ⊎ (D.failed disk ≡ 2 ^ 64 - 1)) }
+        ensures none_failed { IfOk result (λ store. D.failed store.disk ≡ D.failed disk) }
+        ensures cause { IfErr result (λ p. p.0 ≡ RecordFault.Device
+            → IsCounted (D.failed disk) (D.failed p.1)) }
     {
         let mut disk = disk;
         match read(alloc, cluster, node, &mut disk) {

@@ -1,5 +1,5 @@
 -- What a call says of the count of the device's failures, by what the record below it said.
-use Rattle.std.proofs.Common.{◌≡◌, ℕ, ⊎_elim, Result, Ok, Err, refl, ap, ◌∙◌}
+use Rattle.std.proofs.Common.{◌≡◌, ℕ, Result, Ok, Err, refl, ap, ◌∙◌}
 use Rattle.std.specs.Result.{IsErrAnd, IsErrOf}
 use Rattle.site_disk.specs.Model.{DiskState}
 use Rattle.durable.specs.Entries.{Entry}
@@ -31,8 +31,9 @@ counts_memory r before memory = counts_none r before before (no_device r memory)
 pub no_fault : {T : Type 0} (x : T) → ¬ IsErrOf (Ok x) fault.Device
 no_fault x device = absurd (cc)
 
-pub counts_ok : {T : Type 0} (x : T) (before now : ℕ) → now ≡ before → CountsDevice (Ok x) before now
-counts_ok x before now same = counts_none (Ok x) before now (no_fault x) same
+-- a put that succeeded
+pub counts_done : {D T : Type 0} (stands_for : D → DiskState → Type 0) (failed : D → ℕ) (old new : Record D) (entry : Entry) (x : T) → Puts stands_for failed old new entry (Ok tt) → CountsDevice (Ok x) (failed old.disk) (failed new.disk)
+counts_done stands_for failed old new entry x puts = counts_none (Ok x) (failed old.disk) (failed new.disk) (no_fault x) (puts.counts.none (λ device. absurd (cc)))
 
 told_device : {T : Type 0} (r : Result T NodeFault) (e : RecordFault) → IsErrAnd r (λ y. y ≡ of_record e) → IsErrOf {T = Unit {0}} (Err e) stored.Device → IsErrOf r fault.Device
 told_device (Ok x) e told below = absurd told
@@ -41,7 +42,7 @@ told_device (Err y) e told below = let device : e ≡ stored.Device = cc in ap E
 -- a put that failed
 pub counts_put : {D T : Type 0} (stands_for : D → DiskState → Type 0) (failed : D → ℕ) (old new : Record D) (entry : Entry) (e : RecordFault) (r : Result T NodeFault) → Puts stands_for failed old new entry (Err e) → IsErrAnd r (λ y. y ≡ of_record e)
     → CountsDevice r (failed old.disk) (failed new.disk)
-counts_put {D} stands_for failed old new entry e r puts told = record {
-  counted = λ device. (puts.cut_short (ap Err (device_below r e told device))).counted;
-  none = λ other. ⊎_elim (λ below. absurd (other (told_device r e told below))) (λ x. ap (λ (store : Record D). failed store.disk) x.1.same) puts.others;
+counts_put stands_for failed old new entry e r puts told = record {
+  counted = λ device. puts.counts.counted (ap Err (device_below r e told device));
+  none = λ other. puts.counts.none (λ below. other (told_device r e told below));
 }

@@ -19,7 +19,7 @@ use Rattle.node.specs.Faults.{of_record}
 use Rattle.node.specs.Nodes.{Node}
 use Rattle.node.specs.Standing.{counted, HasParts, IsNodeOf, IsHandled, KeepsOthers, TakesCall}
 use Rattle.node.proofs.Adding.{none_more}
-use Rattle.node.proofs.DeviceCounts.{counts_kept, counts_ok, counts_put, no_device}
+use Rattle.node.proofs.DeviceCounts.{counts_kept, counts_done, counts_put, no_device}
 use Rattle.node.proofs.Stepping.{Handed, Done, KeepsRest, is_up, put_fails, put_record, put_stays, rest_with, same_store, stays_there, wants_memory, whole}
 
 -- the message is counted
@@ -79,7 +79,7 @@ module _ {D : Type 0} (stands_for : D → DiskState → Type 0) (failed : D → 
           parts = rest_with old now s t others stands.parts rest (put_record stands_for failed old now entry others runs s stands.parts puts.put) (λ k. record t { reached = (sym (reached ∙ ap (λ r. reached_by r m) stands.parts.reached)) k });
           stays = put_stays stands_for failed old now entry others runs s t stands.parts puts.acknowledged (λ open_now. (puts.batched open_now).ahead) refl refl;
         });
-    counts = counts_ok tt (failed old.store.disk) (failed now.store.disk) puts.put.none_failed;
+    counts = counts_done stands_for failed old.store now.store entry tt puts;
     grows = (out, told);
     others = others;
   }

@@ -329,7 +329,7 @@ module _ {D : Type 0} where
       follows s parts may = history-push old.cluster s.entries entry parts.on_record.history (subst (λ (n : ℕ). MayFollow n s.entries entry) old.store_cluster (may s.entries parts.on_record.kept))
 
       -- one that succeeds has the entry on record
-      pub put_record : (s : Node) → HasParts old s → IsPut failed old.store new.store entry → IsOnRecord new.store new.cluster s.mode (s.entries ++ entry ∷ []) s.in_flight
+      pub put_record : (s : Node) → HasParts old s → IsPut old.store new.store entry → IsOnRecord new.store new.cluster s.mode (s.entries ++ entry ∷ []) s.in_flight
       put_record s parts put = record {
         mode_is = is_up old s parts runs ∙ ap (λ b. cond b Stopped Up) (sym put.running);
         kept = put.kept s.entries parts.on_record.kept;

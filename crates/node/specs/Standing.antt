@@ -1,10 +1,11 @@
 -- Which nodes of the definitions a running node stands for.
-use Rattle.std.specs.Prelude.{◌≡◌, ◌↔◌, ◌⊎◌, ℕ, ◌<◌, ◌≤◌, ◌-◌, ◌^◌, true, false, if◌then◌else◌, Option, None}
+use Rattle.std.specs.Prelude.{◌≡◌, ◌↔◌, ◌⊎◌, ℕ, ◌<◌, ◌≤◌, true, false, if◌then◌else◌, Option, None}
 use Rattle.std.specs.Prelude.{List, ◌++◌, length, Result, Ok, Err, IsErrOf}
 use Rattle.site_disk.specs.Model.{DiskState, LeavesOnly, after_sync}
 use Rattle.site_ids.specs.Lists.{In}
 use Rattle.wire.specs.declared.message.Message.{Message}
 use Rattle.wire.specs.Messages.{IsMessage}
+use Rattle.durable.specs.Counts.{CountsFault}
 use Rattle.durable.specs.Entries.{Entry}
 use Rattle.durable.specs.Histories.{IsHistory}
 use Rattle.durable.specs.Keeping.{IsFound, Keeps, Settles}
@@ -137,11 +138,9 @@ pub record TakesRound {D : Type 0} (old new : Running D) : Type 0 where
   pub above : old.store.recorded.round < new.store.recorded.round
   pub fits : new.store.recorded.round < 2 ^ 32
 
--- if a failure of the device is reported, its count has risen, or is at its last value. If none is reported,
--- nothing was counted
-pub record CountsDevice {T : Type 0} (result : Result T NodeFault) (before now : ℕ) : Type 0 where
-  pub counted : IsErrOf result fault.Device → (before < now) ⊎ (before ≡ 2 ^ 64 - 1)
-  pub none : ¬ IsErrOf result fault.Device → now ≡ before
+-- a failure of the device is counted exactly if it is reported
+abbrev pub CountsDevice : {T : Type 0} → Result T NodeFault → ℕ → ℕ → Type 0
+CountsDevice result before now = CountsFault fault.Device result before now
 
 -- what a call does: it is this event, as its result says; its failures are counted; it only adds messages;
 -- and the node stays the same

@@ -2,10 +2,11 @@
 //!
 //! Whether the node is stopped is marked in its record only.
 
-ghost use Rattle.std.specs.Prelude.{◌≡◌, ◌≢◌, ◌<◌, ◌⊎◌, ◌↔◌, ◌^◌, ◌-◌, [], List, Option, IsTrue, IfOk, IfErr};
+ghost use Rattle.std.specs.Prelude.{◌≡◌, ◌≢◌, ◌⊎◌, ◌↔◌, [], List, Option, IsTrue, IfOk, IfErr};
 ghost use Rattle.std.specs.Prelude.{length, true};
 ghost use Rattle.site_disk.specs.Model.{DiskState, after_sync};
 ghost use Rattle.site_ids.specs.Ids.{IsNode};
+ghost use Rattle.durable.specs.Counts.{IsCounted};
 ghost use Rattle.durable.specs.Cutting.{IsCutShort};
 ghost use Rattle.durable.specs.Entries.{Entry};
 ghost use Rattle.durable.specs.Keeping.{Keeps};
@@ -87,8 +88,8 @@ impl<D: Disk> Node<D> {
         ensures never { IfErr result (λ p. (d : DiskState) (entries : List Entry) (in_flight : Option Entry)
             → D.stands_for disk d → Keeps me cluster entries in_flight d → (p.0 ≡ RecordFault.Device)
             ⊎ (p.0 ≡ RecordFault.OutOfMemory)) }
-        ensures cause { IfErr result (λ p. p.0 ≡ RecordFault.Device → (D.failed disk < D.failed p.1)
-            ⊎ (D.failed disk ≡ 2 ^ 64 - 1)) }
+        ensures cause { IfErr result (λ p. p.0 ≡ RecordFault.Device
+            → IsCounted (D.failed disk) (D.failed p.1)) }
     {
         match Record::open(alloc, cluster, me, disk) {
             Ok(store) => Ok(Node {

@@ -1,8 +1,8 @@
 //! What is reported of a record.
 
-ghost use Rattle.std.specs.Prelude.{◌≡◌, ◌≢◌, ◌⊎◌, ◌-◌, ◌<◌, ◌^◌, IfOk, IfErr, IsErrOf, OnOk, None};
-ghost use Rattle.std.specs.Prelude.{length, List, slice_index};
+ghost use Rattle.std.specs.Prelude.{◌≡◌, ◌≢◌, IfOk, IfErr, None, length, List, slice_index};
 ghost use Rattle.site_disk.specs.Model.{DiskState};
+ghost use Rattle.durable.specs.Counts.{IsCounted, CountsFault};
 ghost use Rattle.durable.specs.Damage.{IsDamage};
 ghost use Rattle.durable.specs.Entries.{Entry};
 ghost use Rattle.durable.specs.Reading.{IsKept};
@@ -44,9 +44,7 @@ fn head<D: Disk>(disk: &mut D) -> Result<(u64, NodeId, Cluster), RecordFault>
         × Names p.1 p.2 d.seen) }
     ensures fault { IfErr result (λ fault. (d : DiskState) → D.stands_for disk.old d → IsRefused fault d.seen
         × (fault ≢ RecordFault.Damaged)) }
-    ensures cause { IsErrOf result RecordFault.Device
-        → (D.failed disk.old < D.failed disk.new) ⊎ (D.failed disk.old ≡ 2 ^ 64 - 1) }
-    ensures none_failed { OnOk result (D.failed disk.new ≡ D.failed disk.old) }
+    ensures counts { CountsFault RecordFault.Device result (D.failed disk.old) (D.failed disk.new) }
 {
     let bytes = disk.len()?;
     if bytes < 11 {
@@ -72,9 +70,7 @@ pub fn damage_of<D: Disk>(alloc: Global, disk: &mut D) -> Result<Option<u64>, Re
         → IsDamage (slice_index d.seen 8) (slice_index d.seen 9) d.seen at) }
     ensures refused { IfErr result (λ fault. (d : DiskState) → D.stands_for disk.old d
         → IsRefused fault d.seen × (fault ≢ RecordFault.Damaged)) }
-    ensures cause { IsErrOf result RecordFault.Device
-        → (D.failed disk.old < D.failed disk.new) ⊎ (D.failed disk.old ≡ 2 ^ 64 - 1) }
-    ensures none_failed { OnOk result (D.failed disk.new ≡ D.failed disk.old) }
+    ensures counts { CountsFault RecordFault.Device result (D.failed disk.old) (D.failed disk.new) }
 {
     let (_, node, nodes) = head(disk)?;
     damage(alloc, nodes, node, disk)
@@ -107,7 +103,7 @@ impl View {
             × (v.bytes ≡ length d.seen))) }
         ensures refused { IfErr result (λ p. (d : DiskState) → D.stands_for disk d → IsRefused p.0 d.seen) }
         ensures cause { IfErr result (λ p. p.0 ≡ RecordFault.Device
-            → (D.failed disk < D.failed p.1) ⊎ (D.failed disk ≡ 2 ^ 64 - 1)) }
+            → IsCounted (D.failed disk) (D.failed p.1)) }
     {
         let mut disk = disk;
         let (bytes, node, nodes) = match head(&mut disk) {

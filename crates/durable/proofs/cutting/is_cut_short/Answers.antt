@@ -1,4 +1,4 @@
-use Rattle.std.proofs.Common.{◌≡◌, ◌≢◌, ◌↔◌, not, IsTrue, eqb, ⊎_elim, ℕ, ◌<◌, List, ◌∷◌, sym, ◌∙◌, ap, length, get_or, take, drop, arith, rules}
+use Rattle.std.proofs.Common.{◌≡◌, ◌≢◌, ◌↔◌, not, IsTrue, eqb, ⊎_elim, ℕ, ◌<◌, List, sym, ◌∙◌, ap, length, get_or, take, drop, arith}
 use Rattle.std.proofs.lemmas.Bool.{false≢true}
 use Rattle.std.proofs.lemmas.Bool.Decides.{eqb_tells}
 use Rattle.std.proofs.lemmas.List.{drop_more}

@@ -1,8 +1,6 @@
-use Rattle.std.proofs.Common.{rules, ◌≡◌, ◌-◌, ◌+◌, ◌≤◌, ℕ, List, [], ◌++◌, length, replicate, refl, sym, ◌∙◌, ap, subst, arith, ⊎_elim, inl, inr, IsTrue, IsFalse, Bool, true, false}
+use Rattle.std.proofs.Common.{◌≡◌, ◌-◌, ◌≤◌, ℕ, List, ◌++◌, length, replicate, refl, ◌∙◌, ap, arith}
 use Rattle.std.proofs.lemmas.Bool.{false≢true}
-use Rattle.site_disk.specs.Model.{DiskState, LeavesOnly, after_write, after_sync, overwritten, IsTorn}
-use Rattle.durable.specs.Append.{IsSettled}
-use Rattle.durable.specs.Growing.{GoesOnAs, with_zeros}
+use Rattle.site_disk.specs.Model.{after_sync}
 use Rattle.durable.proofs.GrowsOn.{same_on, before, synced_on, long_enough, lengthened_at}
 use Rattle.durable.proofs.Results.{on_err}
 use Rattle.durable.proofs.growing.lengthen.Goals as goal

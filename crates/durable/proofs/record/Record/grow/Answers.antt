@@ -1,5 +1,4 @@
-use Rattle.std.proofs.Common.{◌≡◌, ℕ, List, refl, ◌∙◌, ap, arith}
-use Rattle.site_ids.specs.declared.TheConstants.{MAX_RECORD}
+use Rattle.std.proofs.Common.{◌≡◌, ℕ, refl, ◌∙◌, ap, arith}
 use Rattle.durable.specs.Growing.{with_zeros, length_for}
 use Rattle.durable.proofs.GrowsOn.{leaves_all, keeps_all, stays_stored}
 use Rattle.durable.proofs.record.Record.grow.Goals as goal
@@ -13,7 +12,6 @@ returns-in_err-there-clause-failed g c = λ is. (
       (was.0, was.1, leaves_all S old d entries stored was.0 was.2, keeps_all S old d entries stored was.0 was.2 was.3),
   c.if-self.false,
   refl,
-  c.in_err-there.ensures.cause.counted refl,
 )
 
 pub returns-clause-grown : goal.returns-clause-grown

@@ -13,18 +13,15 @@ returns-then-not-has_entries-clause-sealed g c = λ d earlier batch ahead.
     (d, sealed.0, sealed.1, sealed.2, sealed.3)
 
 pub returns-in_err-append-clause-cut_short : goal.returns-in_err-append-clause-cut_short
-returns-in_err-append-clause-cut_short g c = λ _. (
-  λ d earlier batch ahead.
-      let old = c.args.self.now in
-      let S = g.D.Disk.stands_for in
-      let waits = ahead.staged.waits in
-      let some = long_some batch old.staged.bytes.items waits.waiting (c.if-not-has_entries.ensures.0 refl) in
-      let to = with_sum_to S old d earlier batch ahead some in
-      let is = sealed_behind old.recorded.gate _ batch _ to (all_behind c.seal-from.result.from c.deref.result.now ∙ ap (λ (l : List ℕ). drop c.seal-from.result.from l) c.deref.ensures.value ∙ c.seal-from.ensures.bytes (blocks batch) waits.waiting) in
-      let after = c.in_err-append.ensures.torn d ahead.staged.stands ahead.staged.settled (closed_base S old d earlier batch ahead _ is some) in
-      (after.0, after.1, leaves_none_or_all S old d earlier batch ahead _ is some after.0 after.2, keeps_none_or_all S old d earlier batch ahead _ is some after.0 after.2 after.3),
-  c.in_err-append.ensures.cause.counted refl,
-)
+returns-in_err-append-clause-cut_short g c = λ _ d earlier batch ahead.
+    let old = c.args.self.now in
+    let S = g.D.Disk.stands_for in
+    let waits = ahead.staged.waits in
+    let some = long_some batch old.staged.bytes.items waits.waiting (c.if-not-has_entries.ensures.0 refl) in
+    let to = with_sum_to S old d earlier batch ahead some in
+    let is = sealed_behind old.recorded.gate _ batch _ to (all_behind c.seal-from.result.from c.deref.result.now ∙ ap (λ (l : List ℕ). drop c.seal-from.result.from l) c.deref.ensures.value ∙ c.seal-from.ensures.bytes (blocks batch) waits.waiting) in
+    let after = c.in_err-append.ensures.torn d ahead.staged.stands ahead.staged.settled (closed_base S old d earlier batch ahead _ is some) in
+    (after.0, after.1, leaves_none_or_all S old d earlier batch ahead _ is some after.0 after.2, keeps_none_or_all S old d earlier batch ahead _ is some after.0 after.2 after.3)
 
 pub returns-clause-sealed : goal.returns-clause-sealed
 returns-clause-sealed g c = λ d earlier batch ahead.

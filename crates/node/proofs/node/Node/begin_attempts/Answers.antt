@@ -8,7 +8,7 @@ use Rattle.node.specs.Beginning.{begun}
 use Rattle.node.proofs.Starting.{started}
 use Rattle.node.proofs.Stepping.{Handed, same_store, unmoved, whole, wants_memory, put_fails}
 use Rattle.node.proofs.Adding.{none_more, many_more, not_ok, when_ok}
-use Rattle.node.proofs.DeviceCounts.{counts_memory, counts_ok, counts_put}
+use Rattle.node.proofs.DeviceCounts.{counts_memory, counts_done, counts_put}
 use Rattle.node.proofs.node.Node.begin_attempts.Goals as goal
 
 pub make_room_for_span-requires : goal.make_room_for_span-requires
@@ -74,7 +74,7 @@ pub returns-in_err-put_round-clause-counts : goal.returns-in_err-put_round-claus
 returns-in_err-put_round-clause-counts g c = counts_put g.D.Disk.stands_for g.D.Disk.failed c.args.self.now.store _ _ _ c.from_residual-in_err-put_round.result c.in_err-put_round.ensures.put c.from_residual-in_err-put_round.ensures.1
 
 pub returns-clause-counts : goal.returns-clause-counts
-returns-clause-counts g c = counts_ok tt _ _ c.in_ok-put_round.ensures.put.put.none_failed
+returns-clause-counts g c = counts_done g.D.Disk.stands_for g.D.Disk.failed c.args.self.now.store _ _ tt c.in_ok-put_round.ensures.put
 
 pub returns-in_err-reserve-clause-grows : goal.returns-in_err-reserve-clause-grows
 returns-in_err-reserve-clause-grows g c = none_more _ _ c.reserve.ensures.items

@@ -6,7 +6,7 @@ use Rattle.node.specs.Calls.{keep as keeping, IsUnkept, MayKeep}
 use Rattle.node.specs.Effects.{quiet}
 use Rattle.node.proofs.Stepping.{is_up, same_store, stays_there, whole, refused_stopped, wants_memory, put_alone, put_fails}
 use Rattle.node.proofs.KnownValues.{is_none}
-use Rattle.node.proofs.DeviceCounts.{counts_none, counts_memory, counts_ok, counts_put}
+use Rattle.node.proofs.DeviceCounts.{counts_none, counts_memory, counts_done, counts_put}
 use Rattle.node.proofs.node.Node.keep.Goals as goal
 
 -- what a look at the record came to
@@ -81,4 +81,4 @@ returns-in_err-put_learned-clause-counts g c =
     counts_put g.D.Disk.stands_for g.D.Disk.failed c.args.self.now.store _ _ _ c.from_residual-in_err-put_learned.result c.in_err-put_learned.ensures c.from_residual-in_err-put_learned.ensures.1
 
 pub returns-clause-counts : goal.returns-clause-counts
-returns-clause-counts g c = counts_ok tt _ _ c.in_ok-put_learned.ensures.put.none_failed
+returns-clause-counts g c = counts_done g.D.Disk.stands_for g.D.Disk.failed c.args.self.now.store _ _ tt c.in_ok-put_learned.ensures
