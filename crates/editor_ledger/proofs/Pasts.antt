@@ -6,7 +6,7 @@ use Rattle.std.proofs.lemmas.List.Elements.{All-contains_itself, Contains-append
 use Rattle.std.proofs.lemmas.List.Sums.{fold-append}
 use Rattle.editor_ledger.specs.Books.{Given, Book, fresh}
 use Rattle.editor_ledger.specs.Heads.{Head, head_of, is_about, is_same_subject, are_about_one, puts_by, is_put, removal, release_text}
-use Rattle.editor_ledger.specs.Histories.{Event, plans, releases, releases_again, receives, notes, says, after, after_all}
+use Rattle.editor_ledger.specs.Histories.{Event, plans, releases, receives, notes, says, after, after_all}
 use Rattle.editor_ledger.specs.Laws.{AreApart, PastsStay}
 use Rattle.editor_ledger.specs.Past.{is_among, with_first, olds_since}
 use Rattle.editor_ledger.specs.Plans.{plan_of, before_by, before_text, or_removal, overtaken}
@@ -370,13 +370,6 @@ remembers texts ticket releases book is =
       same = is.same;
       covered = λ g there some. let never : false ≡ true = no_subject g (lone_release book.next g there) some in absurd (cc);
     })
-remembers texts ticket releases_again book is =
-    chosen texts ticket (is_idle book && nat_lt 0 book.last_release) (record book { sent = record { number = book.last_release; text = release_text } ∷ [] }) book is (record {
-      below = is.below;
-      apart = is.apart;
-      same = is.same;
-      covered = λ g there some. let never : false ≡ true = no_subject g (lone_release book.last_release g there) some in absurd (cc);
-    })
 remembers texts ticket (receives number) book is = receives_one texts ticket number (find (λ (h : Given). eqb h.number number) book.sent) book refl is
 remembers texts ticket (notes released) book is = record { below = is.below; apart = is.apart; same = is.same; covered = is.covered }
 remembers texts ticket (says release text) book is = record { below = is.below; apart = is.apart; same = is.same; covered = is.covered }
@@ -425,8 +418,6 @@ behind (plans again wanted) book is =
     behind_chosen (is_idle book) (with_tickets (plan_of again book.kept wanted) (with_past (plan_of again book.kept wanted) book)) book is (behind_plan (plan_of again book.kept wanted) book is)
 behind releases book is =
     behind_chosen (is_idle book && has_unshown book) (with_tickets (release_text ∷ []) book) book is (λ g there. let below = is g there in omega (arith, below))
-behind releases_again book is =
-    behind_chosen (is_idle book && nat_lt 0 book.last_release) (record book { sent = record { number = book.last_release; text = release_text } ∷ [] }) book is is
 behind (receives number) book is = behind_received number (find (λ (h : Given). eqb h.number number) book.sent) book is
 behind (notes released) book is = is
 behind (says release text) book is = is

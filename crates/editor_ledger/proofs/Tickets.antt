@@ -7,7 +7,7 @@ use Rattle.std.proofs.lemmas.List.Elements.{All-nil, All-cons, All-head, All-tai
 use Rattle.std.proofs.lemmas.Slice.Eq.{bytes_eq-Decides}
 use Rattle.editor_ledger.specs.Books.{Given, Book, fresh}
 use Rattle.editor_ledger.specs.Heads.{release_text}
-use Rattle.editor_ledger.specs.Histories.{Event, plans, releases, releases_again, receives, notes, says, after, after_all}
+use Rattle.editor_ledger.specs.Histories.{Event, plans, releases, receives, notes, says, after, after_all}
 use Rattle.editor_ledger.specs.Laws.{EachTicketHasOneText}
 use Rattle.editor_ledger.specs.Plans.{plan_of}
 use Rattle.editor_ledger.specs.Steps.{is_idle, has_unshown, numbered, with_tickets, with_past, noted, without, received_as, with_text, logged, messaged}
@@ -20,11 +20,10 @@ IsNumberOf texts n t = (k : ℕ) × (n ≡ suc k) × (slice_get texts k ≡ Some
 abbrev pub IsGiven : List (List ℕ) → Given → Type 0
 IsGiven texts g = IsNumberOf texts g.number g.text
 
--- these are all the texts that ever had a ticket: what is on its way is among them, under its number, and so is the last release
+-- these are all the texts that ever had a ticket: what is on its way is among them, under its number
 pub record IsOf (texts : List (List ℕ)) (book : Book) : Type 0 where
   pub next : book.next ≡ suc (length texts)
   pub each : All (IsGiven texts) book.sent
-  pub last : 0 < book.last_release → IsNumberOf texts book.last_release release_text
 
 -- ---- lists
 
@@ -73,7 +72,6 @@ gives true texts plan book of = (
   record {
     next = omega (arith, of.next, length-append texts plan);
     each = numbered_given texts plan book.next of.next;
-    last = λ some. still texts plan book.last_release release_text (of.last some);
   },
 )
 
@@ -85,39 +83,18 @@ plans_texts true texts plan book of = (
   record {
     next = omega (arith, of.next, length-append texts plan);
     each = numbered_given texts plan book.next of.next;
-    last = λ some. still texts plan book.last_release release_text (of.last some);
   },
 )
-
--- the last release is on its way alone
-abbrev once_more : Book → Book
-once_more book = record book { sent = record { number = book.last_release; text = release_text } ∷ [] }
-
-again : (b : Bool) (texts : List (List ℕ)) (book : Book) → IsOf texts book → (b ≡ true → 0 < book.last_release) → Grows texts (cond b (once_more book) book)
-again false texts book of some = stays texts book of
-again true texts book of some =
-    let last : IsNumberOf texts book.last_release release_text = of.last (some refl) in
-    stays texts (once_more book) (record {
-      next = of.next;
-      each = All-cons (IsGiven texts) (record { number = book.last_release; text = release_text }) [] last (All-nil (IsGiven texts));
-      last = of.last;
-    })
-
-released : (b : Bool) (n : ℕ) → (b && nat_lt 0 n) ≡ true → 0 < n
-released true n is = grind arith
-released false n is = absurd (cc)
 
 noted_of : (b : Bool) (texts : List (List ℕ)) (book : Book) (g : Given) → bytes_eq g.text release_text ≡ b → IsGiven texts g → IsOf texts book
     → IsOf texts (without g.number (cond b (record book { last_release = g.number }) (record book { kept = with_text g.text book.kept })))
 noted_of true texts book g is given of = record {
   next = of.next;
   each = All-filter (λ h. not (eqb h.number g.number)) (IsGiven texts) book.sent of.each;
-  last = λ some. (given.0, given.1, given.2 ∙ ap (λ t. Some t) ((bytes_eq-Decides g.text release_text).0 is));
 }
 noted_of false texts book g is given of = record {
   next = of.next;
   each = All-filter (λ h. not (eqb h.number g.number)) (IsGiven texts) book.sent of.each;
-  last = of.last;
 }
 
 receives_one : (number : ℕ) (r : Option Given) (texts : List (List ℕ)) (book : Book) → find (λ h. eqb h.number number) book.sent ≡ r → IsOf texts book → Grows texts (received_as number r book)
@@ -130,10 +107,9 @@ receives_one number (Some g) texts book is of =
 grows : (event : Event) (texts : List (List ℕ)) (book : Book) → IsOf texts book → Grows texts (after event book)
 grows (plans anew wanted) texts book of = plans_texts (is_idle book) texts (plan_of anew book.kept wanted) book of
 grows releases texts book of = gives (is_idle book && has_unshown book) texts (release_text ∷ []) book of
-grows releases_again texts book of = again (is_idle book && nat_lt 0 book.last_release) texts book of (released (is_idle book) book.last_release)
 grows (receives number) texts book of = receives_one number (find (λ h. eqb h.number number) book.sent) texts book refl of
-grows (notes r) texts book of = stays texts (logged r book) (record { next = of.next; each = of.each; last = of.last })
-grows (says n t) texts book of = stays texts (messaged n t book) (record { next = of.next; each = of.each; last = of.last })
+grows (notes r) texts book of = stays texts (logged r book) (record { next = of.next; each = of.each })
+grows (says n t) texts book of = stays texts (messaged n t book) (record { next = of.next; each = of.each })
 
 grows_all : (events : List Event) (texts : List (List ℕ)) (book : Book) → IsOf texts book → Grows texts (after_all events book)
 grows_all [] texts book of = stays texts book of
@@ -143,7 +119,7 @@ grows_all (event ∷ later) texts book of =
     (one.0 ++ rest.0, subst (λ ts. IsOf ts (after_all later (after event book))) (append_assoc texts one.0 rest.0) rest.1)
 
 of_fresh : (editor : ℕ) → IsOf [] (fresh editor)
-of_fresh editor = record { next = refl; each = All-nil _; last = λ some. absurd (omega (arith, some)) }
+of_fresh editor = record { next = refl; each = All-nil _ }
 
 -- a history has all its texts
 pub of_history : (editor : ℕ) (events : List Event) → (texts : List (List ℕ)) × IsOf texts (after_all events (fresh editor))

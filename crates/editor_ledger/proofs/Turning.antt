@@ -6,7 +6,7 @@ use Rattle.std.proofs.lemmas.List.Elements.{All-contains_itself, Contains-append
 use Rattle.std.proofs.lemmas.Slice.Eq.{bytes_eq-Decides}
 use Rattle.editor_ledger.specs.Books.{Given, Book, fresh}
 use Rattle.editor_ledger.specs.Heads.{Head, head_of, is_about, is_same_subject, are_about_one, puts_by, is_put, removal, release_text}
-use Rattle.editor_ledger.specs.Histories.{Event, plans, releases, releases_again, receives, notes, says, after, after_all}
+use Rattle.editor_ledger.specs.Histories.{Event, plans, releases, receives, notes, says, after, after_all}
 use Rattle.editor_ledger.specs.Laws.{AreApart, AreAbout, PlanTurns}
 use Rattle.editor_ledger.specs.Plans.{plan_of}
 use Rattle.editor_ledger.specs.Steps.{is_idle, has_unshown, numbered, with_tickets, with_past, planned, with_text, noted, without, received_as, received}
@@ -193,8 +193,6 @@ event_apart : (event : Event) (book : Book) → AreApart book.kept → AreApart 
 event_apart (plans again wanted) book apart =
     chosen_apart (is_idle book) (with_tickets (plan_of again book.kept wanted) (with_past (plan_of again book.kept wanted) book)) book refl apart
 event_apart releases book apart = chosen_apart (is_idle book && has_unshown book) (with_tickets (release_text ∷ []) book) book refl apart
-event_apart releases_again book apart =
-    chosen_apart (is_idle book && nat_lt 0 book.last_release) (record book { sent = record { number = book.last_release; text = release_text } ∷ [] }) book refl apart
 event_apart (receives number) book apart = received_apart number (find (λ (h : Given). eqb h.number number) book.sent) book apart
 event_apart (notes released) book apart = apart
 event_apart (says release text) book apart = apart

@@ -2,7 +2,7 @@
 -- the ledger that was saved last.
 use Rattle.std.specs.Prelude.{ℕ, List, [], ◌∷◌}
 use Rattle.editor_ledger.specs.Books.{Book}
-use Rattle.editor_ledger.specs.Steps.{planned, release_planned, received, released_again}
+use Rattle.editor_ledger.specs.Steps.{planned, release_planned, received}
 use Rattle.editor_ledger.specs.Steps.{logged, messaged}
 use Rattle.editor_ledger.specs.declared.released.Released.{Released}
 
@@ -10,7 +10,6 @@ pub data Event : Type 0 where
   -- a folder's texts are the second; those of them are put again that are among the first
   plans : List (List ℕ) → List (List ℕ) → Event
   releases : Event
-  releases_again : Event
   -- the ticket of that number has its receipt
   receives : ℕ → Event
   -- a release is added to the log
@@ -21,7 +20,6 @@ pub data Event : Type 0 where
 abbrev pub after : Event → Book → Book
 after (plans again wanted) book = planned again wanted book
 after releases book = release_planned book
-after releases_again book = released_again book
 after (receives number) book = received number book
 after (notes released) book = logged released book
 after (says release text) book = messaged release text book

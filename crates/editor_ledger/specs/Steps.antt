@@ -65,13 +65,6 @@ received_as number (Some given) book = without number (noted given book)
 abbrev pub received : ℕ → Book → Book
 received number book = received_as number (find (λ g. g.number == number) book.sent) book
 
--- the last release is on its way once more, under its own ticket
-abbrev pub released_again : Book → Book
-released_again book =
-    if is_idle book && nat_lt 0 book.last_release
-    then record book { sent = record { number = book.last_release; text = release_text } ∷ [] }
-    else book
-
 -- ---- the log
 
 abbrev pub logged : Released → Book → Book

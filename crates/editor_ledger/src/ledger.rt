@@ -59,8 +59,7 @@ impl Model for Ledger {
 impl Ledger {
     ghost use Rattle.editor_ledger.specs.Books.{fresh};
     ghost use Rattle.editor_ledger.specs.Steps.{is_idle, has_unshown, with_tickets, with_past, planned};
-    ghost use Rattle.editor_ledger.specs.Steps.{release_planned, noted, received, released_again};
-    ghost use Rattle.editor_ledger.specs.Steps.{logged, messaged};
+    ghost use Rattle.editor_ledger.specs.Steps.{release_planned, noted, received, logged, messaged};
     ghost use Rattle.editor_ledger.specs.Plans.{plan_of};
 
     /// The ledger of an editor that has published nothing.
@@ -229,25 +228,6 @@ impl Ledger {
         let mut texts = Vec::with_capacity(alloc, 1)?;
         texts.push(String::from_str(alloc, RELEASE)?)?;
         self.give(alloc, texts)
-    }
-
-    /// Puts the last release on its way once more, under its own ticket, if there is one. Nodes that were all
-    /// down learn their log after something is decided, and a ticket that was given does no harm.
-    pub fn release_again(&mut self, alloc: Global) -> Result<(), AllocError>
-        requires { is_idle self.old ≡ true }
-        ensures ok { OnOk result (self.new ≡ released_again self.old) }
-        ensures err { OnErr result (self.new ≡ self.old) }
-    {
-        if self.last_release == 0 {
-            return Ok(());
-        }
-        let mut sent = Vec::with_capacity(alloc, 1)?;
-        sent.push(Sent {
-            number: self.last_release,
-            text: String::from_str(alloc, RELEASE)?,
-        })?;
-        self.sent = sent;
-        Ok(())
     }
 
     /// Notes that the group has the text of the ticket.

@@ -1,5 +1,5 @@
 //! A history of a ledger, step by step.
-use crate::comparing::{ensure, same};
+use crate::comparing::same;
 use crate::editors::ledgers::{plan, plan_release, receive, told};
 use editor_ledger::Ledger;
 use std::alloc::Global;
@@ -11,14 +11,12 @@ enum Step {
     /// The commands of a folder are planned, a letter each.
     Plan(&'static str),
     Release,
-    ReleaseAgain,
     Receive(u64),
 }
 
 /// Each step, and the ledger after it.
 const HISTORY: &[(Step, &str)] = &[
     (Step::Release, "1 0 "),
-    (Step::ReleaseAgain, "1 0 "),
     (Step::Plan(""), "1 0 "),
     (Step::Plan("TA"), "3 0  1T 2A"),
     (Step::Receive(3), "3 0  1T 2A"),
@@ -29,8 +27,6 @@ const HISTORY: &[(Step, &str)] = &[
     (Step::Release, "4 0 AT 3!"),
     (Step::Receive(3), "4 3 AT"),
     (Step::Release, "4 3 AT"),
-    (Step::ReleaseAgain, "4 3 AT 3!"),
-    (Step::Receive(3), "4 3 AT"),
     (Step::Plan("BR"), "7 3 AT 4B 5R 6t"),
     (Step::Receive(4), "7 3 TB 5R 6t"),
     (Step::Receive(6), "7 3 Bt 5R"),
@@ -43,16 +39,10 @@ const HISTORY: &[(Step, &str)] = &[
     (Step::Receive(10), "11 3 art"),
 ];
 
-fn release_again(rt: &impl Abort, alloc: Global, ledger: &mut Ledger) {
-    let is_planned = ledger.is_idle() && ledger.release_again(alloc).is_ok();
-    ensure(rt, is_planned, ledger.next());
-}
-
 fn take(rt: &impl Abort, alloc: Global, ledger: &mut Ledger, step: Step) {
     match step {
         Step::Plan(letters) => plan(rt, alloc, ledger, letters),
         Step::Release => plan_release(rt, alloc, ledger),
-        Step::ReleaseAgain => release_again(rt, alloc, ledger),
         Step::Receive(number) => receive(rt, ledger, number),
     }
 }
