@@ -6,10 +6,10 @@ use Rattle.std.proofs.lemmas.List.Elements.{All-contains_itself, Contains-append
 use Rattle.std.proofs.lemmas.List.Sums.{fold-append}
 use Rattle.editor_ledger.specs.Books.{Given, Book, fresh}
 use Rattle.editor_ledger.specs.Heads.{Head, head_of, is_about, is_same_subject, are_about_one, puts_by, is_put, removal, release_text}
-use Rattle.editor_ledger.specs.Histories.{Event, plans, plans_again, releases, releases_again, receives, notes, says, after, after_all}
+use Rattle.editor_ledger.specs.Histories.{Event, plans, releases, releases_again, receives, notes, says, after, after_all}
 use Rattle.editor_ledger.specs.Laws.{AreApart, PastsStay}
 use Rattle.editor_ledger.specs.Past.{is_among, with_first, olds_since}
-use Rattle.editor_ledger.specs.Plans.{plan_of, plan_again, before_by, before_text, or_removal, overtaken}
+use Rattle.editor_ledger.specs.Plans.{plan_of, before_by, before_text, or_removal, overtaken}
 use Rattle.editor_ledger.specs.Steps.{is_idle, has_unshown, numbered, with_tickets, with_past, with_text, noted, without, received_as}
 use Rattle.editor_ledger.proofs.Members.{here, later, cases, nowhere, filtered, passes, keeps, none_passes, some_passes, tested, given_by, gives}
 use Rattle.editor_ledger.proofs.Subjects.{about, about_one, turned, is_about_it, removal_about, removal_puts_none}
@@ -360,11 +360,9 @@ receives_one texts ticket number (Some g) book is had =
     noted_too texts ticket number (bytes_eq g.text release_text) book g there had (text_apart g.text book.kept had.apart)
 
 remembers : (texts : List (List ℕ)) (ticket : ℕ) (event : Event) (book : Book) → Remembers texts ticket book → Remembers texts ticket (after event book)
-remembers texts ticket (plans wanted) book is =
-    chosen texts ticket (is_idle book) (with_tickets (plan_of book.kept wanted) (with_past (plan_of book.kept wanted) book)) book is (plans_more texts ticket (plan_of book.kept wanted) book is)
-remembers texts ticket (plans_again again wanted) book is =
-    chosen texts ticket (is_idle book) (with_tickets (plan_again again book.kept wanted) (with_past (plan_again again book.kept wanted) book)) book is
-    (plans_more texts ticket (plan_again again book.kept wanted) book is)
+remembers texts ticket (plans again wanted) book is =
+    chosen texts ticket (is_idle book) (with_tickets (plan_of again book.kept wanted) (with_past (plan_of again book.kept wanted) book)) book is
+    (plans_more texts ticket (plan_of again book.kept wanted) book is)
 remembers texts ticket releases book is =
     chosen texts ticket (is_idle book && has_unshown book) (with_tickets (release_text ∷ []) book) book is (record {
       below = omega (arith, is.below);
@@ -423,10 +421,8 @@ behind_received number None book is = is
 behind_received number (Some g) book is = behind_noted (bytes_eq g.text release_text) number g book is
 
 behind : (event : Event) (book : Book) → Behind book → Behind (after event book)
-behind (plans wanted) book is =
-    behind_chosen (is_idle book) (with_tickets (plan_of book.kept wanted) (with_past (plan_of book.kept wanted) book)) book is (behind_plan (plan_of book.kept wanted) book is)
-behind (plans_again again wanted) book is =
-    behind_chosen (is_idle book) (with_tickets (plan_again again book.kept wanted) (with_past (plan_again again book.kept wanted) book)) book is (behind_plan (plan_again again book.kept wanted) book is)
+behind (plans again wanted) book is =
+    behind_chosen (is_idle book) (with_tickets (plan_of again book.kept wanted) (with_past (plan_of again book.kept wanted) book)) book is (behind_plan (plan_of again book.kept wanted) book is)
 behind releases book is =
     behind_chosen (is_idle book && has_unshown book) (with_tickets (release_text ∷ []) book) book is (λ g there. let below = is g there in omega (arith, below))
 behind releases_again book is =

@@ -1,5 +1,5 @@
 -- What two texts are about.
-use Rattle.std.proofs.Common.{◌≡◌, ℕ, List, Bool, true, false, cond, not, ◌&&◌, ◌⊎◌, inl, inr, codes, Option, Some, None, option_and_then, Contains, refl, sym, ap, ◌∙◌}
+use Rattle.std.proofs.Common.{◌≡◌, ℕ, List, [], Bool, true, false, cond, not, ◌&&◌, ◌⊎◌, inl, inr, codes, Option, Some, None, option_and_then, Contains, refl, sym, ap, ◌∙◌}
 use Rattle.std.specs.List.{list_any, filter_map}
 use Rattle.std.specs.Str.{bytes_eq}
 use Rattle.std.proofs.lemmas.List.Elements.{Contains-append_cases, Contains-append_left, Contains-append_right}
@@ -97,21 +97,21 @@ removal_puts_none old h is = ap puts_by (removal_about old h is)
 -- ---- plans
 
 -- what is planned is wanted, and the group has it not; or it is a removal
-pub plan_cases : (kept wanted : List (List ℕ)) (p : List ℕ) → Contains (plan_of kept wanted) p
+pub plan_cases : (kept wanted : List (List ℕ)) (p : List ℕ) → Contains (plan_of [] kept wanted) p
     → (Contains wanted p × (list_any (bytes_eq p) kept ≡ false)) ⊎ IsRemoval kept wanted p
-plan_cases kept wanted p is = by_cases (Contains-append_cases (missing kept wanted) (filter_map (removal_of wanted) kept) p is)
+plan_cases kept wanted p is = by_cases (Contains-append_cases (missing [] kept wanted) (filter_map (removal_of wanted) kept) p is)
   where
-    by_cases : Contains (missing kept wanted) p ⊎ Contains (filter_map (removal_of wanted) kept) p → (Contains wanted p × (list_any (bytes_eq p) kept ≡ false)) ⊎ IsRemoval kept wanted p
+    by_cases : Contains (missing [] kept wanted) p ⊎ Contains (filter_map (removal_of wanted) kept) p → (Contains wanted p × (list_any (bytes_eq p) kept ≡ false)) ⊎ IsRemoval kept wanted p
     by_cases (inl one) = inl (filtered (λ t. not (list_any (bytes_eq t) kept)) wanted p one, no_not (list_any (bytes_eq p) kept) (passes (λ t. not (list_any (bytes_eq t) kept)) wanted p one))
     by_cases (inr other) = inr (removed kept wanted p other)
 
-pub planned_missing : (kept wanted : List (List ℕ)) (p : List ℕ) → Contains wanted p → list_any (bytes_eq p) kept ≡ false → Contains (plan_of kept wanted) p
+pub planned_missing : (kept wanted : List (List ℕ)) (p : List ℕ) → Contains wanted p → list_any (bytes_eq p) kept ≡ false → Contains (plan_of [] kept wanted) p
 planned_missing kept wanted p is none =
-    Contains-append_left (missing kept wanted) (filter_map (removal_of wanted) kept) p
+    Contains-append_left (missing [] kept wanted) (filter_map (removal_of wanted) kept) p
     (keeps (λ t. not (list_any (bytes_eq t) kept)) wanted p is (ap not none))
 
-pub planned_removal : (kept wanted : List (List ℕ)) (p : List ℕ) → Contains (filter_map (removal_of wanted) kept) p → Contains (plan_of kept wanted) p
-planned_removal kept wanted p is = Contains-append_right (missing kept wanted) (filter_map (removal_of wanted) kept) p is
+pub planned_removal : (kept wanted : List (List ℕ)) (p : List ℕ) → Contains (filter_map (removal_of wanted) kept) p → Contains (plan_of [] kept wanted) p
+planned_removal kept wanted p is = Contains-append_right (missing [] kept wanted) (filter_map (removal_of wanted) kept) p is
 
 -- no wanted text is about what a removal is about
 pub never_both : (kept wanted : List (List ℕ)) (w p : List ℕ) → Contains wanted w → IsRemoval kept wanted p → are_about_one w p ≡ true → ⊥

@@ -7,9 +7,9 @@ use Rattle.std.proofs.lemmas.List.Elements.{All-nil, All-cons, All-head, All-tai
 use Rattle.std.proofs.lemmas.Slice.Eq.{bytes_eq-Decides}
 use Rattle.editor_ledger.specs.Books.{Given, Book, fresh}
 use Rattle.editor_ledger.specs.Heads.{release_text}
-use Rattle.editor_ledger.specs.Histories.{Event, plans, plans_again, releases, releases_again, receives, notes, says, after, after_all}
+use Rattle.editor_ledger.specs.Histories.{Event, plans, releases, releases_again, receives, notes, says, after, after_all}
 use Rattle.editor_ledger.specs.Laws.{EachTicketHasOneText}
-use Rattle.editor_ledger.specs.Plans.{plan_of, plan_again}
+use Rattle.editor_ledger.specs.Plans.{plan_of}
 use Rattle.editor_ledger.specs.Steps.{is_idle, has_unshown, numbered, with_tickets, with_past, noted, without, received_as, with_text, logged, messaged}
 use Rattle.editor_ledger.proofs.Receipts.{number_found}
 
@@ -128,8 +128,7 @@ receives_one number (Some g) texts book is of =
     stays texts (without number (noted g book)) (subst (λ n. IsOf texts (without n (noted g book))) same (noted_of (bytes_eq g.text release_text) texts book g refl given of))
 
 grows : (event : Event) (texts : List (List ℕ)) (book : Book) → IsOf texts book → Grows texts (after event book)
-grows (plans wanted) texts book of = plans_texts (is_idle book) texts (plan_of book.kept wanted) book of
-grows (plans_again anew wanted) texts book of = plans_texts (is_idle book) texts (plan_again anew book.kept wanted) book of
+grows (plans anew wanted) texts book of = plans_texts (is_idle book) texts (plan_of anew book.kept wanted) book of
 grows releases texts book of = gives (is_idle book && has_unshown book) texts (release_text ∷ []) book of
 grows releases_again texts book of = again (is_idle book && nat_lt 0 book.last_release) texts book of (released (is_idle book) book.last_release)
 grows (receives number) texts book of = receives_one number (find (λ h. eqb h.number number) book.sent) texts book refl of

@@ -6,9 +6,9 @@ use Rattle.std.proofs.lemmas.List.Elements.{All-contains_itself, Contains-append
 use Rattle.std.proofs.lemmas.Slice.Eq.{bytes_eq-Decides}
 use Rattle.editor_ledger.specs.Books.{Given, Book, fresh}
 use Rattle.editor_ledger.specs.Heads.{Head, head_of, is_about, is_same_subject, are_about_one, puts_by, is_put, removal, release_text}
-use Rattle.editor_ledger.specs.Histories.{Event, plans, plans_again, releases, releases_again, receives, notes, says, after, after_all}
+use Rattle.editor_ledger.specs.Histories.{Event, plans, releases, releases_again, receives, notes, says, after, after_all}
 use Rattle.editor_ledger.specs.Laws.{AreApart, AreAbout, PlanTurns}
-use Rattle.editor_ledger.specs.Plans.{plan_of, plan_again}
+use Rattle.editor_ledger.specs.Plans.{plan_of}
 use Rattle.editor_ledger.specs.Steps.{is_idle, has_unshown, numbered, with_tickets, with_past, planned, with_text, noted, without, received_as, received}
 use Rattle.editor_ledger.proofs.Members.{here, later, cases, nowhere, filtered, passes, keeps, some_passes, tested}
 use Rattle.editor_ledger.proofs.Receipts.{number_found}
@@ -190,9 +190,8 @@ chosen_apart true x book same apart = subst AreApart (sym same) apart
 chosen_apart false x book same apart = apart
 
 event_apart : (event : Event) (book : Book) → AreApart book.kept → AreApart (after event book).kept
-event_apart (plans wanted) book apart = chosen_apart (is_idle book) (with_tickets (plan_of book.kept wanted) (with_past (plan_of book.kept wanted) book)) book refl apart
-event_apart (plans_again again wanted) book apart =
-    chosen_apart (is_idle book) (with_tickets (plan_again again book.kept wanted) (with_past (plan_again again book.kept wanted) book)) book refl apart
+event_apart (plans again wanted) book apart =
+    chosen_apart (is_idle book) (with_tickets (plan_of again book.kept wanted) (with_past (plan_of again book.kept wanted) book)) book refl apart
 event_apart releases book apart = chosen_apart (is_idle book && has_unshown book) (with_tickets (release_text ∷ []) book) book refl apart
 event_apart releases_again book apart =
     chosen_apart (is_idle book && nat_lt 0 book.last_release) (record book { sent = record { number = book.last_release; text = release_text } ∷ [] }) book refl apart
@@ -220,7 +219,7 @@ removals_apart kept wanted t u apart first second same =
     let heads : first.head ≡ second.head = some_is _ _ (sym first.head_is ∙ ap head_of olds ∙ second.head_is) in
     sym first.is ∙ ap removal heads ∙ second.is
 
-plan_apart : (kept wanted : List (List ℕ)) → AreApart kept → AreApart wanted → AreApart (plan_of kept wanted)
+plan_apart : (kept wanted : List (List ℕ)) → AreApart kept → AreApart wanted → AreApart (plan_of [] kept wanted)
 plan_apart kept wanted kept_apart apart t u first second one = by_cases (plan_cases kept wanted t first) (plan_cases kept wanted u second)
   where
     by_cases : (Contains wanted t × (list_any (bytes_eq t) kept ≡ false)) ⊎ IsRemoval kept wanted t → (Contains wanted u × (list_any (bytes_eq u) kept ≡ false)) ⊎ IsRemoval kept wanted u → t ≡ u
@@ -229,7 +228,7 @@ plan_apart kept wanted kept_apart apart t u first second one = by_cases (plan_ca
     by_cases (inr a) (inl b) = absurd (never_both kept wanted u t b.0 a (turned t u one))
     by_cases (inr a) (inr b) = removals_apart kept wanted t u kept_apart a b one
 
-plan_about : (kept wanted : List (List ℕ)) → AreAbout wanted → AreAbout (plan_of kept wanted)
+plan_about : (kept wanted : List (List ℕ)) → AreAbout wanted → AreAbout (plan_of [] kept wanted)
 plan_about kept wanted some t is = by_cases (plan_cases kept wanted t is)
   where
     by_cases : (Contains wanted t × (list_any (bytes_eq t) kept ≡ false)) ⊎ IsRemoval kept wanted t → IsSome (head_of t)
@@ -243,7 +242,7 @@ same_text t u is = (bytes_eq-Decides t u).0 is
 
 -- a put that was kept, and that nothing of the plan is about, is wanted
 wanted_still : (kept wanted : List (List ℕ)) (t : List ℕ) (o : Option Head) → AreApart kept → head_of t ≡ o → puts_by o ≡ true → Contains kept t
-    → ((p : List ℕ) → Contains (plan_of kept wanted) p → are_about_one p t ≡ false) → Contains wanted t
+    → ((p : List ℕ) → Contains (plan_of [] kept wanted) p → are_about_one p t ≡ false) → Contains wanted t
 wanted_still kept wanted t None apart is put there none = absurd (cc)
 wanted_still kept wanted t (Some h) apart is put there none = by_name (tested (list_any (λ w. is_about h (head_of w)) wanted))
   where
@@ -268,7 +267,7 @@ wanted_still kept wanted t (Some h) apart is put there none = by_name (tested (l
         absurd (cc)
 
 -- what is wanted and kept already, nothing of the plan is about
-untouched : (kept wanted : List (List ℕ)) (t p : List ℕ) → AreApart wanted → Contains wanted t → list_any (bytes_eq t) kept ≡ true → Contains (plan_of kept wanted) p
+untouched : (kept wanted : List (List ℕ)) (t p : List ℕ) → AreApart wanted → Contains wanted t → list_any (bytes_eq t) kept ≡ true → Contains (plan_of [] kept wanted) p
     → (are_about_one p t ≡ true) ⊎ (are_about_one p t ≡ false) → are_about_one p t ≡ false
 untouched kept wanted t p apart wants had planned (inr none) = none
 untouched kept wanted t p apart wants had planned (inl one) = by_cases (plan_cases kept wanted p planned)
@@ -281,7 +280,7 @@ untouched kept wanted t p apart wants had planned (inl one) = by_cases (plan_cas
     by_cases (inr a) = absurd (never_both kept wanted t p wants a (turned p t one))
 
 -- with nothing on its way any more
-ends : (kept wanted : List (List ℕ)) (book : Book) → AreApart kept → AreApart wanted → Coming kept (plan_of kept wanted) book → book.sent ≡ []
+ends : (kept wanted : List (List ℕ)) (book : Book) → AreApart kept → AreApart wanted → Coming kept (plan_of [] kept wanted) book → book.sent ≡ []
     → (t : List ℕ) → is_put t ≡ true → Contains book.kept t ↔ Contains wanted t
 ends kept wanted book kept_apart apart coming done t put = (λ is. from_kept (coming.olds t is), λ wants. from_wanted wants (tested (list_any (bytes_eq t) kept)))
   where
@@ -298,7 +297,7 @@ ends kept wanted book kept_apart apart coming done t put = (λ is. from_kept (co
         let no : is_put t ≡ false = ap is_put (sym a.is) ∙ removal_puts_none a.old a.head a.head_is in
         absurd (cc)
 
-    from_kept : Contains (plan_of kept wanted) t ⊎ (Contains kept t × ((p : List ℕ) → Contains (plan_of kept wanted) p → are_about_one p t ≡ true → OnWay book p)) → Contains wanted t
+    from_kept : Contains (plan_of [] kept wanted) t ⊎ (Contains kept t × ((p : List ℕ) → Contains (plan_of [] kept wanted) p → are_about_one p t ≡ true → OnWay book p)) → Contains wanted t
     from_kept (inl planned) = from_plan (plan_cases kept wanted t planned)
     from_kept (inr old) = wanted_still kept wanted t (head_of t) kept_apart refl put old.0 (λ p planned. none_about p (old.1 p planned) (tested (are_about_one p t)))
 
@@ -313,17 +312,17 @@ ends kept wanted book kept_apart apart coming done t put = (λ is. from_kept (co
         coming.stays t in_kept (λ p planned. untouched kept wanted t p apart wants had planned (tested (are_about_one p t)))
     from_wanted wants (inr none) = arrived (coming.arrives t (planned_missing kept wanted t wants none))
 
-idle_plans : (wanted : List (List ℕ)) (book : Book) → book.sent ≡ [] → planned wanted book ≡ with_tickets (plan_of book.kept wanted) (with_past (plan_of book.kept wanted) book)
+idle_plans : (wanted : List (List ℕ)) (book : Book) → book.sent ≡ [] → planned [] wanted book ≡ with_tickets (plan_of [] book.kept wanted) (with_past (plan_of [] book.kept wanted) book)
 idle_plans wanted book none =
     let idle : is_idle book ≡ true = ap (λ (gs : List Given). eqb (length gs) 0) none in
-    ap (λ b. cond b (with_tickets (plan_of book.kept wanted) (with_past (plan_of book.kept wanted) book)) book) idle
+    ap (λ b. cond b (with_tickets (plan_of [] book.kept wanted) (with_past (plan_of [] book.kept wanted) book)) book) idle
 
 pub plan_turns : PlanTurns
 plan_turns editor events wanted numbers idle apart some done t put =
     let book : Book = after_all events (fresh editor) in
     let kept_apart : AreApart book.kept = events_apart events (fresh editor) (λ v w is. absurd (nowhere v is)) in
-    let coming : Coming book.kept (plan_of book.kept wanted) (after_all (map receives numbers) (planned wanted book)) =
-    subst (λ b. Coming book.kept (plan_of book.kept wanted) (after_all (map receives numbers) b)) (sym (idle_plans wanted book idle))
-    (receives_all book.kept (plan_of book.kept wanted) numbers (with_tickets (plan_of book.kept wanted) (with_past (plan_of book.kept wanted) book))
-    (plan_apart book.kept wanted kept_apart apart) (plan_about book.kept wanted some) (begins (plan_of book.kept wanted) book)) in
-    ends book.kept wanted (after_all (map receives numbers) (planned wanted book)) kept_apart apart coming done t put
+    let coming : Coming book.kept (plan_of [] book.kept wanted) (after_all (map receives numbers) (planned [] wanted book)) =
+    subst (λ b. Coming book.kept (plan_of [] book.kept wanted) (after_all (map receives numbers) b)) (sym (idle_plans wanted book idle))
+    (receives_all book.kept (plan_of [] book.kept wanted) numbers (with_tickets (plan_of [] book.kept wanted) (with_past (plan_of [] book.kept wanted) book))
+    (plan_apart book.kept wanted kept_apart apart) (plan_about book.kept wanted some) (begins (plan_of [] book.kept wanted) book)) in
+    ends book.kept wanted (after_all (map receives numbers) (planned [] wanted book)) kept_apart apart coming done t put

@@ -2,15 +2,13 @@
 -- the ledger that was saved last.
 use Rattle.std.specs.Prelude.{ℕ, List, [], ◌∷◌}
 use Rattle.editor_ledger.specs.Books.{Book}
-use Rattle.editor_ledger.specs.Steps.{planned, planned_again, release_planned, received, released_again}
+use Rattle.editor_ledger.specs.Steps.{planned, release_planned, received, released_again}
 use Rattle.editor_ledger.specs.Steps.{logged, messaged}
 use Rattle.editor_ledger.specs.declared.released.Released.{Released}
 
 pub data Event : Type 0 where
-  -- a folder's texts are planned
-  plans : List (List ℕ) → Event
-  -- the second texts are planned, and those of them put again that are among the first
-  plans_again : List (List ℕ) → List (List ℕ) → Event
+  -- a folder's texts are the second; those of them are put again that are among the first
+  plans : List (List ℕ) → List (List ℕ) → Event
   releases : Event
   releases_again : Event
   -- the ticket of that number has its receipt
@@ -21,8 +19,7 @@ pub data Event : Type 0 where
   says : ℕ → List ℕ → Event
 
 abbrev pub after : Event → Book → Book
-after (plans wanted) book = planned wanted book
-after (plans_again again wanted) book = planned_again again wanted book
+after (plans again wanted) book = planned again wanted book
 after releases book = release_planned book
 after releases_again book = released_again book
 after (receives number) book = received number book

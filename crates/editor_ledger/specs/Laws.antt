@@ -31,9 +31,9 @@ PlanTurns = (editor : ℕ) (events : List Event) (wanted : List (List ℕ)) (num
     → (after_all events (fresh editor)).sent ≡ []
     → AreApart wanted
     → AreAbout wanted
-    → (after_all (map receives numbers) (planned wanted (after_all events (fresh editor)))).sent ≡ []
+    → (after_all (map receives numbers) (planned [] wanted (after_all events (fresh editor)))).sent ≡ []
     → (t : List ℕ) → is_put t ≡ true
-    → Contains (after_all (map receives numbers) (planned wanted (after_all events (fresh editor)))).kept t
+    → Contains (after_all (map receives numbers) (planned [] wanted (after_all events (fresh editor)))).kept t
     ↔ Contains wanted t
 
 -- what the group had with nothing on its way stays known by its last ticket, whatever is planned,

@@ -6,9 +6,10 @@ use Rattle.std.specs.Str.{bytes_eq}
 use Rattle.editor_ledger.specs.Books.{Given}
 use Rattle.editor_ledger.specs.Heads.{Head, head_of, is_about, puts, removal}
 
--- the wanted texts that the group lacks
-abbrev pub missing : List (List ℕ) → List (List ℕ) → List (List ℕ)
-missing kept wanted = filter (λ t. not (list_any (bytes_eq t) kept)) wanted
+-- the wanted texts that are put again, or that the group lacks
+abbrev pub missing : List (List ℕ) → List (List ℕ) → List (List ℕ) → List (List ℕ)
+missing again kept wanted =
+    filter (λ t. list_any (bytes_eq t) again || not (list_any (bytes_eq t) kept)) wanted
 
 -- the removal of what a head put, if no wanted text is about the same
 abbrev pub removal_by : List (List ℕ) → Head → Option (List ℕ)
@@ -18,19 +19,10 @@ removal_by wanted head =
 abbrev pub removal_of : List (List ℕ) → List ℕ → Option (List ℕ)
 removal_of wanted text = option_and_then (removal_by wanted) (head_of text)
 
--- what is missing, and the removals of what was put and is no longer wanted
-abbrev pub plan_of : List (List ℕ) → List (List ℕ) → List (List ℕ)
-plan_of kept wanted = missing kept wanted ++ filter_map (removal_of wanted) kept
-
--- the wanted texts that the group lacks, or that are put again
-abbrev pub missing_or_again : List (List ℕ) → List (List ℕ) → List (List ℕ) → List (List ℕ)
-missing_or_again again kept wanted =
-    filter (λ t. not (list_any (bytes_eq t) kept) || list_any (bytes_eq t) again) wanted
-
--- a plan that puts some of the wanted texts again, though the group has them by the ledger: another editor
--- may have put something in their place since
-abbrev pub plan_again : List (List ℕ) → List (List ℕ) → List (List ℕ) → List (List ℕ)
-plan_again again kept wanted = missing_or_again again kept wanted ++ filter_map (removal_of wanted) kept
+-- what is missing, and the removals of what was put and is no longer wanted. Texts are put again, though the
+-- group has them by the ledger, if another editor may have put something in their place since
+abbrev pub plan_of : List (List ℕ) → List (List ℕ) → List (List ℕ) → List (List ℕ)
+plan_of again kept wanted = missing again kept wanted ++ filter_map (removal_of wanted) kept
 
 -- ---- what a plan overtakes
 

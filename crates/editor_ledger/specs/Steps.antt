@@ -4,7 +4,7 @@ use Rattle.std.specs.Prelude.{if◌then◌else◌, Bool, Option, Some, None}
 use Rattle.std.specs.Str.{bytes_eq}
 use Rattle.editor_ledger.specs.Books.{Given, Book}
 use Rattle.editor_ledger.specs.Heads.{are_about_one, release_text}
-use Rattle.editor_ledger.specs.Plans.{plan_of, plan_again, overtaken}
+use Rattle.editor_ledger.specs.Plans.{plan_of, overtaken}
 use Rattle.editor_ledger.specs.declared.released.Released.{Released}
 
 -- nothing is on its way
@@ -30,17 +30,11 @@ with_tickets texts book = record book { next = book.next + length texts; sent = 
 abbrev pub with_past : List (List ℕ) → Book → Book
 with_past plan book = record book { past = book.past ++ overtaken book.next book.kept plan }
 
-abbrev pub planned : List (List ℕ) → Book → Book
-planned wanted book =
+-- the wanted texts are planned, and those of them put again that are among the first
+abbrev pub planned : List (List ℕ) → List (List ℕ) → Book → Book
+planned again wanted book =
     if is_idle book
-    then with_tickets (plan_of book.kept wanted) (with_past (plan_of book.kept wanted) book)
-    else book
-
--- the same, with some of the wanted texts put again
-abbrev pub planned_again : List (List ℕ) → List (List ℕ) → Book → Book
-planned_again again wanted book =
-    if is_idle book
-    then with_tickets (plan_again again book.kept wanted) (with_past (plan_again again book.kept wanted) book)
+    then with_tickets (plan_of again book.kept wanted) (with_past (plan_of again book.kept wanted) book)
     else book
 
 abbrev pub release_planned : Book → Book

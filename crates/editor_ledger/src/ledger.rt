@@ -1,5 +1,5 @@
 //! What an editor keeps of its publications.
-ghost use Rattle.std.specs.Prelude.{◌≡◌, ◌≤◌, ◌<◌, ◌+◌, ◌^◌, length, map, true, Err, IfOk, OnOk, OnErr};
+ghost use Rattle.std.specs.Prelude.{◌≡◌, ◌≤◌, ◌<◌, ◌+◌, ◌^◌, [], length, map, true, Err, IfOk, OnOk, OnErr};
 ghost use Rattle.std.specs.Prelude.{string_bytes};
 ghost use Rattle.editor_ledger.specs.View.{given_view, past_view, message_view};
 
@@ -7,7 +7,7 @@ use crate::fault::LedgerFault;
 use crate::kept::Kept;
 use crate::message::Message;
 use crate::past::Past;
-use crate::planning::{overtaken, plan_again, plan_of};
+use crate::planning::{overtaken, plan_of};
 use crate::released::Released;
 use crate::sent::{Sent, drop_under, numbered, under};
 use std::alloc::{AllocError, Global};
@@ -59,9 +59,9 @@ impl Model for Ledger {
 impl Ledger {
     ghost use Rattle.editor_ledger.specs.Books.{fresh};
     ghost use Rattle.editor_ledger.specs.Steps.{is_idle, has_unshown, with_tickets, with_past, planned};
-    ghost use Rattle.editor_ledger.specs.Steps.{planned_again, release_planned, noted, received};
-    ghost use Rattle.editor_ledger.specs.Steps.{released_again, logged, messaged};
-    ghost use Rattle.editor_ledger.specs.Plans.{plan_of, plan_again};
+    ghost use Rattle.editor_ledger.specs.Steps.{release_planned, noted, received, released_again};
+    ghost use Rattle.editor_ledger.specs.Steps.{logged, messaged};
+    ghost use Rattle.editor_ledger.specs.Plans.{plan_of};
 
     /// The ledger of an editor that has published nothing.
     pub fn new(alloc: Global, editor: u32) -> Ledger
@@ -191,27 +191,15 @@ impl Ledger {
     /// The texts that a plan of these texts puts on their way.
     pub fn next_texts(&self, alloc: Global, wanted: &[&str]) -> Result<Vec<String>, AllocError>
         ensures { IfOk result (λ v. map string_bytes v.items
-            ≡ plan_of self.now.kept (map (λ t. t.now) wanted.now)) }
+            ≡ plan_of [] self.now.kept (map (λ t. t.now) wanted.now)) }
     {
-        plan_of(alloc, self.kept.as_slice(), wanted)
+        plan_of(alloc, self.kept.as_slice(), wanted, &[])
     }
 
     /// Plans what turns the texts that the group has into the wanted ones, each about another kind and name.
-    /// It keeps what the group had before each.
-    pub fn plan(&mut self, alloc: Global, wanted: &[&str]) -> Result<(), LedgerFault>
-        requires { is_idle self.old ≡ true }
-        ensures ok { OnOk result (self.new ≡ planned (map (λ t. t.now) wanted.now) self.old) }
-        ensures err { OnErr result (self.new ≡ self.old) }
-        ensures tickets { result ≡ Err LedgerFault.NoTickets
-            → 2 ^ 64 ≤ self.old.next + length (plan_of self.old.kept (map (λ t. t.now) wanted.now)) }
-    {
-        let texts = plan_of(alloc, self.kept.as_slice(), wanted)?;
-        self.take_plan(alloc, texts)
-    }
-
-    /// Plans the same, and puts some of the wanted texts again that the group has by this ledger: another
-    /// editor may have put something in their place.
-    pub fn plan_again(
+    /// It keeps what the group had before each. It puts texts again that the group has by this ledger:
+    /// another editor may have put something in their place.
+    pub fn plan(
         &mut self,
         alloc: Global,
         wanted: &[&str],
@@ -219,12 +207,12 @@ impl Ledger {
     ) -> Result<(), LedgerFault>
         requires { is_idle self.old ≡ true }
         ensures ok { OnOk result (self.new
-            ≡ planned_again (map string_bytes again.now) (map (λ t. t.now) wanted.now) self.old) }
+            ≡ planned (map string_bytes again.now) (map (λ t. t.now) wanted.now) self.old) }
         ensures err { OnErr result (self.new ≡ self.old) }
         ensures tickets { result ≡ Err LedgerFault.NoTickets → 2 ^ 64 ≤ self.old.next
-            + length (plan_again (map string_bytes again.now) self.old.kept (map (λ t. t.now) wanted.now)) }
+            + length (plan_of (map string_bytes again.now) self.old.kept (map (λ t. t.now) wanted.now)) }
     {
-        let texts = plan_again(alloc, self.kept.as_slice(), wanted, again)?;
+        let texts = plan_of(alloc, self.kept.as_slice(), wanted, again)?;
         self.take_plan(alloc, texts)
     }
 

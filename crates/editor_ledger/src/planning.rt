@@ -5,8 +5,7 @@
 ghost use Rattle.std.specs.Prelude.{◌≡◌, ℕ, List, map, option_map, IfOk, string_bytes};
 ghost use Rattle.std.specs.List.{filter_map};
 ghost use Rattle.editor_ledger.specs.Firsts.{HasFirsts};
-ghost use Rattle.editor_ledger.specs.Plans.{missing, missing_or_again, removal_of, plan_of, plan_again};
-ghost use Rattle.editor_ledger.specs.Plans.{before_text, overtaken};
+ghost use Rattle.editor_ledger.specs.Plans.{missing, removal_of, plan_of, before_text, overtaken};
 ghost use Rattle.editor_ledger.specs.View.{past_view};
 
 use crate::firsts::{Firsts, first_about, firsts_in, firsts_of, has_about, is_in, texts_in};
@@ -14,41 +13,21 @@ use crate::head::head_of;
 use crate::past::Past;
 use std::alloc::{AllocError, Global};
 
-/// The wanted texts that the group lacks, in their order.
+/// The wanted texts that are put again, or that the group lacks, in their order.
 fn missing<'a>(
-    alloc: Global,
-    kept: &'a [String],
-    wanted: &'a [&'a str],
-) -> Result<Vec<String>, AllocError>
-    ensures { IfOk result (λ v. map string_bytes v.items
-        ≡ missing (map string_bytes kept.now) (map (λ t. t.now) wanted.now)) }
-{
-    let had = texts_in(alloc, kept)?;
-    let mut plan = Vec::new(alloc);
-    for text in wanted {
-        if !is_in(&had, text) {
-            plan.push(String::from_str(alloc, text)?)?;
-        }
-    }
-    Ok(plan)
-}
-
-/// The wanted texts that the group lacks, or that are put again, in their order.
-fn missing_or_again<'a>(
     alloc: Global,
     kept: &'a [String],
     wanted: &'a [&'a str],
     again: &'a [String],
 ) -> Result<Vec<String>, AllocError>
     ensures { IfOk result (λ v. map string_bytes v.items
-        ≡ missing_or_again (map string_bytes again.now) (map string_bytes kept.now)
-        (map (λ t. t.now) wanted.now)) }
+        ≡ missing (map string_bytes again.now) (map string_bytes kept.now) (map (λ t. t.now) wanted.now)) }
 {
     let had = texts_in(alloc, kept)?;
     let anew = texts_in(alloc, again)?;
     let mut plan = Vec::new(alloc);
     for text in wanted {
-        if !is_in(&had, text) || is_in(&anew, text) {
+        if is_in(&anew, text) || !is_in(&had, text) {
             plan.push(String::from_str(alloc, text)?)?;
         }
     }
@@ -93,32 +72,18 @@ fn removals<'a>(
     Ok(plan)
 }
 
-/// The texts of a plan: what is missing, in the order in which it is wanted, then the removals.
+/// The texts of a plan that puts some of the wanted texts again: what is missing, in the order in which it is
+/// wanted, then the removals.
 pub(crate) fn plan_of<'a>(
-    alloc: Global,
-    kept: &'a [String],
-    wanted: &'a [&'a str],
-) -> Result<Vec<String>, AllocError>
-    ensures { IfOk result (λ v. map string_bytes v.items
-        ≡ plan_of (map string_bytes kept.now) (map (λ t. t.now) wanted.now)) }
-{
-    let mut plan = missing(alloc, kept, wanted)?;
-    let mut gone = removals(alloc, kept, wanted)?;
-    plan.append(&mut gone)?;
-    Ok(plan)
-}
-
-/// The texts of a plan that puts some of the wanted texts again.
-pub(crate) fn plan_again<'a>(
     alloc: Global,
     kept: &'a [String],
     wanted: &'a [&'a str],
     again: &'a [String],
 ) -> Result<Vec<String>, AllocError>
     ensures { IfOk result (λ v. map string_bytes v.items
-        ≡ plan_again (map string_bytes again.now) (map string_bytes kept.now) (map (λ t. t.now) wanted.now)) }
+        ≡ plan_of (map string_bytes again.now) (map string_bytes kept.now) (map (λ t. t.now) wanted.now)) }
 {
-    let mut plan = missing_or_again(alloc, kept, wanted, again)?;
+    let mut plan = missing(alloc, kept, wanted, again)?;
     let mut gone = removals(alloc, kept, wanted)?;
     plan.append(&mut gone)?;
     Ok(plan)

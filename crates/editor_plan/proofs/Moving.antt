@@ -2,7 +2,7 @@
 use Rattle.std.proofs.Common.{◌≡◌, ℕ, List, [], ◌∷◌, ◌++◌, length, Bool, true, false, cond, eqb, ◌↔◌, Contains, map, refl, sym, ap, subst, ◌∙◌}
 use Rattle.std.proofs.lemmas.List.{map-append}
 use Rattle.editor_ledger.specs.Books.{Given, Book, fresh}
-use Rattle.editor_ledger.specs.Histories.{Event, plans, plans_again as puts_again, releases, receives, notes as tells, says as speaks, after, after_all}
+use Rattle.editor_ledger.specs.Histories.{Event, plans, releases, receives, notes as tells, says as speaks, after, after_all}
 use Rattle.editor_ledger.specs.Plans.{plan_of}
 use Rattle.editor_ledger.specs.Steps.{is_idle, numbered, with_tickets, with_past, planned, received}
 use Rattle.editor_ledger.proofs.Tickets.{one_text}
@@ -22,8 +22,8 @@ heard true number book = (receives number ∷ [], refl)
 heard false number book = ([], refl)
 
 one_move : (move : Move) (book : Book) → Leads book (moved move book)
-one_move (advances wanted) book = (plans wanted ∷ (releases ∷ []), refl)
-one_move (plans_again again wanted) book = (puts_again again wanted ∷ [], refl)
+one_move (advances wanted) book = (plans [] wanted ∷ (releases ∷ []), refl)
+one_move (plans_again again wanted) book = (plans again wanted ∷ [], refl)
 one_move (hears (Receipt number) status) book = heard (eqb status 200) number book
 one_move (hears (Submit number) status) book = ([], refl)
 one_move (notes released) book = (tells released ∷ [], refl)
@@ -49,10 +49,10 @@ tickets editor moves more g h here there same =
     (subst (λ (b : Book). Contains b.sent h) (later.1 ∙ ap (after_all later.0) before.1) there)
     same
 
-idle_plans : (wanted : List (List ℕ)) (book : Book) → book.sent ≡ [] → planned wanted book ≡ with_tickets (plan_of book.kept wanted) (with_past (plan_of book.kept wanted) book)
+idle_plans : (wanted : List (List ℕ)) (book : Book) → book.sent ≡ [] → planned [] wanted book ≡ with_tickets (plan_of [] book.kept wanted) (with_past (plan_of [] book.kept wanted) book)
 idle_plans wanted book none =
     let idle : is_idle book ≡ true = ap (λ (gs : List Given). eqb (length gs) 0) none in
-    ap (λ b. cond b (with_tickets (plan_of book.kept wanted) (with_past (plan_of book.kept wanted) book)) book) idle
+    ap (λ b. cond b (with_tickets (plan_of [] book.kept wanted) (with_past (plan_of [] book.kept wanted) book)) book) idle
 
 pub done : DoneIsTheFolder
 done editor moves wanted is apart about t put =
@@ -60,11 +60,11 @@ done editor moves wanted is apart about t put =
     let book : Book = after_all before.0 (fresh editor) in
     let same : moved_all moves (fresh editor) ≡ book = before.1 in
     let idle : book.sent ≡ [] = subst (λ (b : Book). b.sent ≡ []) same is.idle in
-    let all : plan_of book.kept wanted ≡ [] = subst (λ (b : Book). plan_of b.kept wanted ≡ []) same is.has_all in
-    let plan : planned wanted book ≡ with_tickets (plan_of book.kept wanted) (with_past (plan_of book.kept wanted) book) = idle_plans wanted book idle in
-    let sent : (planned wanted book).sent ≡ [] = ap (λ (b : Book). b.sent) plan ∙ ap (numbered book.next) all in
-    let kept : (planned wanted book).kept ≡ book.kept = ap (λ (b : Book). b.kept) plan in
-    let turned : Contains (planned wanted book).kept t ↔ Contains wanted t = plan_turns editor before.0 wanted [] idle apart about sent t put in
+    let all : plan_of [] book.kept wanted ≡ [] = subst (λ (b : Book). plan_of [] b.kept wanted ≡ []) same is.has_all in
+    let plan : planned [] wanted book ≡ with_tickets (plan_of [] book.kept wanted) (with_past (plan_of [] book.kept wanted) book) = idle_plans wanted book idle in
+    let sent : (planned [] wanted book).sent ≡ [] = ap (λ (b : Book). b.sent) plan ∙ ap (numbered book.next) all in
+    let kept : (planned [] wanted book).kept ≡ book.kept = ap (λ (b : Book). b.kept) plan in
+    let turned : Contains (planned [] wanted book).kept t ↔ Contains wanted t = plan_turns editor before.0 wanted [] idle apart about sent t put in
     subst (λ (b : Book). Contains b.kept t ↔ Contains wanted t) (sym same) (subst (λ (ks : List (List ℕ)). Contains ks t ↔ Contains wanted t) kept turned)
 
 -- ---- answers that are heard

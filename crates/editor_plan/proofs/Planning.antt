@@ -32,8 +32,8 @@ texts_idle true plan book is idle =
     (same_book plan book sent none, sent, none)
 texts_idle false plan book is idle = absurd (cc)
 
-pub planned_idle : (wanted : List (List ℕ)) (book : Book) → is_idle (planned wanted book) ≡ true → (planned wanted book ≡ book) × (book.sent ≡ []) × (plan_of book.kept wanted ≡ [])
-planned_idle wanted book idle = texts_idle (is_idle book) (plan_of book.kept wanted) book refl idle
+pub planned_idle : (wanted : List (List ℕ)) (book : Book) → is_idle (planned [] wanted book) ≡ true → (planned [] wanted book ≡ book) × (book.sent ≡ []) × (plan_of [] book.kept wanted ≡ [])
+planned_idle wanted book idle = texts_idle (is_idle book) (plan_of [] book.kept wanted) book refl idle
 
 release_idle : (b : Bool) (book : Book) → (is_idle book && has_unshown book) ≡ b → is_idle (cond b (with_tickets (release_text ∷ []) book) book) ≡ true
     → (cond b (with_tickets (release_text ∷ []) book) book ≡ book) × (is_idle book ≡ true) × ((is_idle book && has_unshown book) ≡ false)
@@ -48,9 +48,9 @@ done_by : (b : Bool) → cond b Done Sends ≡ Done → b ≡ true
 done_by true is = refl
 done_by false is = absurd (cc)
 
-pub done_is : (wanted : List (List ℕ)) (book : Book) → stage_of (release_planned (planned wanted book)) ≡ Done → IsDone wanted book (release_planned (planned wanted book))
+pub done_is : (wanted : List (List ℕ)) (book : Book) → stage_of (release_planned (planned [] wanted book)) ≡ Done → IsDone wanted book (release_planned (planned [] wanted book))
 done_is wanted book done =
-    let after : Book = planned wanted book in
+    let after : Book = planned [] wanted book in
     let idle : is_idle (release_planned after) ≡ true = done_by (is_idle (release_planned after)) done in
     let release = release_idle (is_idle after && has_unshown after) after refl idle in
     let texts = planned_idle wanted book release.1 in

@@ -8,7 +8,7 @@ use Rattle.editor_plan.specs.declared.course.Stage.TheVariants.{Sends, Done}
 
 -- the commands, or their release if there are none; neither while something is on its way
 abbrev pub advanced : List (List ℕ) → Book → Book
-advanced wanted book = release_planned (planned wanted book)
+advanced wanted book = release_planned (planned [] wanted book)
 
 abbrev pub stage_of : Book → Stage
 stage_of book = if is_idle book then Done else Sends
@@ -17,9 +17,9 @@ stage_of book = if is_idle book then Done else Sends
 pub record IsDone (wanted : List (List ℕ)) (old new : Book) : Type 0 where
   pub same : new ≡ old
   pub idle : old.sent ≡ []
-  pub has_all : plan_of old.kept wanted ≡ []
+  pub has_all : plan_of [] old.kept wanted ≡ []
   pub shown : has_unshown old ≡ false
 
 -- the plan and its release need more tickets than there are numbers left in 64 bits
 abbrev pub LacksTickets : List (List ℕ) → Book → Type 0
-LacksTickets wanted book = 2 ^ 64 ≤ book.next + length (plan_of book.kept wanted) + 1
+LacksTickets wanted book = 2 ^ 64 ≤ book.next + length (plan_of [] book.kept wanted) + 1

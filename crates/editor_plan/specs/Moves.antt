@@ -2,7 +2,7 @@
 -- interruption leaves the ledger that was saved last.
 use Rattle.std.specs.Prelude.{◌≡◌, ℕ, List, [], ◌∷◌, map}
 use Rattle.editor_ledger.specs.Books.{Book}
-use Rattle.editor_ledger.specs.Steps.{planned_again, logged, messaged}
+use Rattle.editor_ledger.specs.Steps.{planned, logged, messaged}
 use Rattle.editor_ledger.specs.declared.released.Released.{Released}
 use Rattle.editor_plan.specs.Courses.{advanced}
 use Rattle.editor_plan.specs.Flights.{after_hearing}
@@ -22,7 +22,7 @@ pub data Move : Type 0 where
 
 abbrev pub moved : Move → Book → Book
 moved (advances wanted) book = advanced wanted book
-moved (plans_again again wanted) book = planned_again again wanted book
+moved (plans_again again wanted) book = planned again wanted book
 moved (hears ask status) book = after_hearing ask status book
 moved (notes released) book = logged released book
 moved (says release text) book = messaged release text book

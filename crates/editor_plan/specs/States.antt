@@ -35,4 +35,5 @@ states_of book =
 -- since its last release what it overtook, and what is planned next
 abbrev pub touched : List (List ℕ) → Book → List (List ℕ)
 touched wanted book =
-    map (λ g. g.text) (filter (λ g. nat_lt book.last_release g.number) book.past) ++ plan_of book.kept wanted
+    map (λ g. g.text) (filter (λ g. nat_lt book.last_release g.number) book.past)
+    ++ plan_of [] book.kept wanted

@@ -1,5 +1,5 @@
 //! What is planned next.
-ghost use Rattle.std.specs.Prelude.{◌≡◌, map, IfOk, OnOk, OnErr, IsErrOf};
+ghost use Rattle.std.specs.Prelude.{◌≡◌, [], map, IfOk, OnOk, OnErr, IsErrOf};
 ghost use Rattle.editor_ledger.specs.Steps.{planned};
 ghost use Rattle.editor_plan.specs.Courses.{advanced, stage_of, IsDone, LacksTickets};
 
@@ -27,13 +27,13 @@ fn stage_of(ledger: &Ledger) -> Stage
 
 /// Plans the texts of a folder that the group lacks, if nothing is on its way.
 fn plan_texts(alloc: Global, ledger: &mut Ledger, wanted: &[&str]) -> Result<(), LedgerFault>
-    ensures ok { OnOk result (ledger.new ≡ planned (map (λ t. t.now) wanted.now) ledger.old) }
+    ensures ok { OnOk result (ledger.new ≡ planned [] (map (λ t. t.now) wanted.now) ledger.old) }
     ensures err { OnErr result (ledger.new ≡ ledger.old) }
     ensures tickets { IsErrOf result LedgerFault.NoTickets
         → LacksTickets (map (λ t. t.now) wanted.now) ledger.old }
 {
     if ledger.is_idle() {
-        ledger.plan(alloc, wanted)?;
+        ledger.plan(alloc, wanted, &[])?;
     }
     Ok(())
 }

@@ -278,7 +278,7 @@ pub(crate) fn plan_again(
     if again.is_empty() || !ledger.is_idle() {
         return Ok(());
     }
-    ledger.plan_again(alloc, texts, again)
+    ledger.plan(alloc, texts, again)
 }
 
 /// How a refusal says that nothing was sent: `nothing more` if an earlier run left commands.

@@ -45,7 +45,7 @@ pub fn commands(alloc: Global, letters: &str) -> Result<Vec<&'static str>, Alloc
 // Below are a ledger's steps. No allocation may fail in them.
 
 pub fn plan_texts(rt: &impl Abort, alloc: Global, ledger: &mut Ledger, wanted: &[&str]) {
-    let is_planned = ledger.is_idle() && ledger.plan(alloc, wanted).is_ok();
+    let is_planned = ledger.is_idle() && ledger.plan(alloc, wanted, &[]).is_ok();
     ensure(rt, is_planned, ledger.next());
 }
 

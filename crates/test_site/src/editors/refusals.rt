@@ -56,7 +56,7 @@ fn folders(rt: HostRuntime) {
 
 fn step(alloc: Global, ledger: &mut Ledger, wanted: &[&str]) -> Result<bool, LedgerFault> {
     if ledger.is_idle() {
-        ledger.plan(alloc, wanted)?;
+        ledger.plan(alloc, wanted, &[])?;
         Ok(true)
     } else {
         Ok(false)

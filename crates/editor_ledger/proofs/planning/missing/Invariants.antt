@@ -4,4 +4,5 @@ use Rattle.editor_ledger.proofs.planning.missing.Given as goal
 
 -- those of the texts so far
 abbrev pub invariant-loop-text : goal.invariant-loop-text
-invariant-loop-text l = map string_bytes l.plan.items ≡ missing (map string_bytes l.kept) (map (λ t. t.now) (take l.text-index l.wanted))
+invariant-loop-text l = map string_bytes l.plan.items
+    ≡ missing (map string_bytes l.again) (map string_bytes l.kept) (map (λ t. t.now) (take l.text-index l.wanted))

@@ -1,8 +1,0 @@
-use Rattle.std.proofs.Common.{◌≡◌, map, take, string_bytes}
-use Rattle.editor_ledger.specs.Plans.{missing_or_again}
-use Rattle.editor_ledger.proofs.planning.missing_or_again.Given as goal
-
--- those of the texts so far
-abbrev pub invariant-loop-text : goal.invariant-loop-text
-invariant-loop-text l = map string_bytes l.plan.items
-    ≡ missing_or_again (map string_bytes l.again) (map string_bytes l.kept) (map (λ t. t.now) (take l.text-index l.wanted))
