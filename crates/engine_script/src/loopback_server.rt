@@ -5,9 +5,9 @@ use crate::loopback_fault::LoopbackFault;
 use durable::Record;
 use engine_common::read_all;
 use http_read::Counted;
-use http_serve::ServeFault;
+use http_serve::{ServeFault, serve};
 use node::{Node, NodeFault};
-use server::{Served, close, serve_requests};
+use server::{Served, close};
 use site_disk::MemDisk;
 use site_drive::{UdpLink, drive};
 use site_ids::{Cluster, NodeId};
@@ -100,7 +100,7 @@ impl LoopbackServer {
         limit_waiting(&stream)?;
         let mut reader = Counted::new(&stream);
         let mut writer = Counted::new(&stream);
-        let served = serve_requests(alloc, &mut reader, &mut writer, &mut self.served);
+        let served = serve(alloc, &mut reader, &mut writer, &mut self.served);
         close(stream);
         match served {
             Err(ServeFault::OutOfMemory) => Err(LoopbackFault::OutOfMemory),

@@ -30,11 +30,7 @@ pub(crate) fn count_named(bytes: &[u8], fields: &[HeaderSpan], name: &[u8]) -> u
 }
 
 /// The value of the first field line with this name.
-pub(crate) fn first_named<'b>(
-    bytes: &'b [u8],
-    fields: &[HeaderSpan],
-    name: &[u8],
-) -> Option<&'b [u8]>
+pub fn first_named<'b>(bytes: &'b [u8], fields: &[HeaderSpan], name: &[u8]) -> Option<&'b [u8]>
     requires { LieIn bytes.now fields.now }
     ensures { option_map (λ v. v.now) result ≡ head_of (values_of name.now (covered bytes.now fields.now)) }
 {

@@ -35,6 +35,7 @@ pub use awaited::Awaited;
 pub use counted::Counted;
 pub use escaping::ESCAPED;
 pub use fault::ReadFault;
+pub use fields::first_named;
 pub use inbox::Inbox;
 pub use incoming::{Incoming, Method, Request};
 pub use laws::{answer_is_one, answer_stands, candidates_agree, head_is_one};

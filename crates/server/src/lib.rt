@@ -25,7 +25,7 @@ pub use packing::pack;
 pub use peers::Peers;
 pub use recorded::Recorded;
 pub use server::{Server, Stepped};
-pub use server_clients::{Hold, Linger, Partings, Seats, Served, Stay, serve_requests};
+pub use server_clients::{Hold, Linger, Partings, Seats, Served, Stay};
 pub use server_faults::{ServeOptions, ServerFault};
 pub use shell::close;
 pub use sockets::datagrams;

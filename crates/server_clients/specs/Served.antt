@@ -1,10 +1,10 @@
 -- A node as a service: its pages and receipts are those of what it has published, and a submission is one of
 -- its calls.
-use Rattle.std.specs.Prelude.{◌≡◌, ℕ, ◌≤◌, List, [], Ok, Err}
+use Rattle.std.specs.Prelude.{◌≡◌, ℕ, List, [], Ok, Err}
 use Rattle.command.specs.Effective.{effective}
 use Rattle.command.specs.Releases.{release_count}
 use Rattle.command.specs.Written.{value_of}
-use Rattle.http_serve.specs.Services.{Offered, Outcome, MaySubmitMany}
+use Rattle.http_serve.specs.Services.{Offered, Outcome}
 use Rattle.http_serve.specs.declared.submission.Submission.TheVariants.{Queued, Already}
 use Rattle.http_serve.specs.declared.submission.SubmitFault.TheVariants.{Command, Busy, Stopped, OutOfMemory}
 use Rattle.node.specs.Calls.{submit, IsAnswered}
@@ -53,7 +53,3 @@ offered = record {
   takes = Takes;
   stays = Stays;
 }
-
--- at most one connection was answered: at most a hundred requests, each of which may have been a submission
-abbrev pub MayAnswer : {D : Type 0} → Served D → Served D → Type 0
-MayAnswer old new = (n : ℕ) × (n ≤ 100) × MaySubmitMany offered n old new
