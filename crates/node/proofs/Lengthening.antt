@@ -1,5 +1,5 @@
 -- A node whose file grows.
-use Rattle.std.proofs.Common.{◌≡◌, ℕ, inl, ⊎_elim, Bool, IsTrue, Option, None, false, List, [], if◌then◌else◌, sym, ◌∙◌, ap, subst}
+use Rattle.std.proofs.Common.{◌≡◌, ℕ, inl, ⊎_elim, Bool, IsTrue, Option, None, false, List, [], sym, subst}
 use Rattle.site_disk.specs.Model.{DiskState, LeavesOnly}
 use Rattle.durable.specs.Batches.{IsNoneOrAll, KeepsNoneOrAll}
 use Rattle.durable.specs.Entries.{Entry}
@@ -9,20 +9,9 @@ use Rattle.durable.specs.Standing.{StandsFor}
 use Rattle.durable.specs.declared.record.Record.{Record}
 use Rattle.durable.proofs.Moments.{weaker}
 use Rattle.node.specs.declared.node.Node.{Node as Running}
-use Rattle.node.specs.Nodes.{Mode, Stopped, Up, Node}
-use Rattle.node.specs.Standing.{IsOnRecord, IsNodeOf, IsOnDisk, IsEither}
+use Rattle.node.specs.Nodes.{Node}
+use Rattle.node.specs.Standing.{IsNodeOf, IsOnDisk, IsEither}
 use Rattle.node.proofs.Stepping.{of_node}
-
--- which disk is under a record that runs says nothing of what is on record
-pub over_another : {D : Type 0} (old new : Record D) (n : ℕ) (mode : Mode) (entries : List Entry) (in_flight : Option Entry) → new ≡ record old { disk = new.disk; stopped = new.stopped }
-    → new.stopped ≡ old.stopped → IsOnRecord old n mode entries in_flight → IsOnRecord new n mode entries in_flight
-over_another {D} old new n mode entries in_flight is same on =
-    subst (λ (store : Record D). IsOnRecord store n mode entries in_flight) (sym is) (record {
-      mode_is = on.mode_is ∙ ap (λ (b : Bool). if b then Stopped else Up) (sym same);
-      kept = on.kept;
-      history = on.history;
-      settled = λ running. on.settled (sym same ∙ running);
-    })
 
 -- with no entry in flight, what is found is what is on record
 all_found : (p n : ℕ) (entries : List Entry) (file : List ℕ) → IsFound p n entries None file → StandsFor p n file entries

@@ -159,6 +159,24 @@ module _ {D : Type 0} where
   unmoved old new s others store rest reached parts =
       rest_with old new s s others parts rest (same_record old new s s others (same_store old.store new.store store) refl refl refl parts.on_record) (λ k. record s { reached = (sym parts.reached ∙ sym reached) k })
 
+  -- which disk is under its record, and what waits in a batch, says nothing of which nodes it stands for
+  pub over_another : (old new : Running D) (s : Node) → KeepsOthers old new → KeepsRest old new → new.reached ≡ old.reached → new.store.stopped ≡ old.store.stopped → new.store.recorded ≡ old.store.recorded
+      → IsNodeOf old s → IsNodeOf new s
+  over_another old new s others rest reached stopped recorded stands =
+      let parts = stands.parts in
+      let on = parts.on_record in
+      record {
+        parts = rest_with old new s s others parts rest (record {
+          mode_is = on.mode_is ∙ ap (λ b. cond b Stopped Up) (sym stopped);
+          kept = subst (IsKept s.entries) (sym recorded) on.kept;
+          history = subst (λ (n : ℕ). IsHistory n s.entries) (sym others.cluster) on.history;
+          settled = λ runs. on.settled (sym stopped ∙ runs);
+        }) (λ k. record s { reached = (sym parts.reached ∙ sym reached) k });
+        tidy = stands.tidy;
+        ranges = subst (λ (n : ℕ). HasRanges n s) (sym others.cluster) stands.ranges;
+        fed = subst (λ (vs : List Value). BeginsKnown vs s) (sym others.releases) stands.fed;
+      }
+
   module _ (stands_for : D → DiskState → Type 0) where
     pub of_node : (store : Record D) (p n : ℕ) (d : DiskState) (entries : List Entry) → store.node ≡ p → store.cluster ≡ n → IsStored stands_for store d entries → Keeps p n entries None d
     of_node store p n d entries node cluster has =

@@ -2,32 +2,18 @@
 use Rattle.std.proofs.Common.{◌≡◌, ⊎_elim, ℕ, zero, suc, Result, Ok, Err, ap, ◌∙◌}
 use Rattle.std.specs.Result.{IsErrAnd}
 use Rattle.http_serve.specs.Services.{MaySubmit, MaySubmitMany}
-use Rattle.node.specs.declared.fault.NodeFault.{NodeFault}
-use Rattle.node.specs.declared.fault.NodeFault.TheVariants.{Device}
-use Rattle.node.specs.Standing.{CountsDevice}
 use Rattle.site_drive.proofs.Failing.{store_kept}
 use Rattle.server_faults.specs.declared.server_fault.ServerFault.{ServerFault}
-use Rattle.server_faults.specs.declared.server_fault.ServerFault.TheVariants.{Stopped, OutOfMemory}
+use Rattle.server_faults.specs.declared.server_fault.ServerFault.TheVariants.{Stopped}
 use Rattle.server_clients.specs.declared.served.Served.{Served}
-use Rattle.server_faults.specs.ServerFaults.{of_node, CountsNone}
+use Rattle.server_faults.specs.ServerFaults.{CountsNone}
 use Rattle.server_clients.specs.Served.{offered}
-
-one_fault : {T : Type 0} (x y : NodeFault) → ◌≡◌ {A = Result T NodeFault} (Err x) (Err y) → x ≡ y
-one_fault x y e = cc
 
 one_halt : {T : Type 0} (x y : ServerFault) → ◌≡◌ {A = Result T ServerFault} (Err x) (Err y) → x ≡ y
 one_halt x y e = cc
 
 fine : {T : Type 0} (x : T) → ◌≡◌ {A = Result T ServerFault} (Ok x) (Err Stopped) → ⊥
 fine x e = cc
-
-other : OutOfMemory ≡ Stopped → ⊥
-other e = cc
-
--- a drive that is given up by the device stops the server
-pub drive_counts : {T U : Type 0} (r : Result T ServerFault) (fault : NodeFault) (before now : ℕ) → IsErrAnd r (λ y. y ≡ of_node fault) → CountsDevice {T = U} (Err fault) before now → CountsNone r before now
-drive_counts (Ok x) fault before now is c running = absurd is
-drive_counts (Err y) fault before now is c running = c.none (λ e. running (ap Err (is ∙ ap of_node (one_fault fault Device e))))
 
 -- the fault that is passed on, after laps that counted nothing
 pub counts_on : {T U : Type 0} (r : Result T ServerFault) (why : ServerFault) (before mid now : ℕ) → IsErrAnd r (λ y. y ≡ why) → mid ≡ before → CountsNone {T = U} (Err why) mid now → CountsNone r before now

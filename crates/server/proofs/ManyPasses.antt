@@ -1,20 +1,22 @@
 -- Steps, and passes one after another.
-use Rattle.std.proofs.Common.{◌≡◌, ◌⊎◌, inl, inr, ℕ, ◌+◌, ◌<◌, ◌≤◌, List, [], ◌∷◌, ◌++◌, length, take, refl, sym, ap, subst, ◌∙◌, arith}
+use Rattle.std.proofs.Common.{◌≡◌, ◌⊎◌, inl, inr, ⊎_elim, ℕ, ◌+◌, ◌<◌, ◌≤◌, List, [], ◌∷◌, ◌++◌, length, take, Result, Ok, Err, refl, sym, ap, subst, ◌∙◌, arith}
 use Rattle.std.proofs.lemmas.List.{length-append}
 use Rattle.std.proofs.Math.Seq.{take-length}
+use Rattle.std.specs.Result.{IsErrAnd, IfErr}
 use Rattle.site_disk.specs.Model.{DiskState}
 use Rattle.wire.specs.declared.message.Message.{Message}
 use Rattle.http_serve.specs.Services.{MaySubmitMany}
 use Rattle.node.specs.Nodes.{Node, IsKnownPrefix}
 use Rattle.node.specs.declared.fault.NodeFault.{NodeFault}
+use Rattle.node.specs.declared.fault.NodeFault.TheVariants as node_fault
 use Rattle.node.specs.declared.node.Node.{Node as Running}
 use Rattle.node.specs.declared.to.To.{To}
 use Rattle.site_drive.specs.Batches.{TakesBatch, GivesUpBatch, LosesBatch, LeadsSealed, IsStop}
 use Rattle.site_drive.specs.Leading.{AllFit, StaysWhose}
 use Rattle.site_drive.specs.Posting.{spelled_of}
 use Rattle.site_drive.specs.declared.last_call.LastCall.{LastCall}
-use Rattle.server_faults.specs.ServerFaults.{of_node}
-use Rattle.server.specs.Passes.{TakesStep, BreaksStep, TakesPass, TakesPasses, BreaksPass, BreaksPasses, BreaksWork, Led, IsBatched, IsBatchOf, MaySend, LosesStep, LosesPass, LosesPasses}
+use Rattle.server_faults.specs.ServerFaults.{of_node, EndsLaps}
+use Rattle.server.specs.Passes.{TakesStep, BreaksStep, TakesPass, TakesPasses, BreaksPass, BreaksPasses, BreaksWork, EndsWork, Led, IsBatched, IsBatchOf, LosesStep, EndsByStep, LosesPass, LosesPasses}
 use Rattle.server_clients.specs.Served.{offered}
 use Rattle.server_faults.specs.declared.server_fault.ServerFault.{ServerFault}
 use Rattle.server_faults.specs.declared.server_fault.ServerFault.TheVariants as server_fault
@@ -40,6 +42,13 @@ stops : (why : NodeFault) → IsStop why → of_node why ≡ server_fault.Stoppe
 stops why (inl device) = ap of_node device
 stops why (inr stopped) = ap of_node stopped
 
+ends_laps : (why : NodeFault) → EndsLaps (of_node why)
+ends_laps node_fault.Device = tt
+ends_laps node_fault.Stopped = tt
+ends_laps node_fault.RoundsUsedUp = tt
+ends_laps node_fault.Conflict = tt
+ends_laps _ = tt
+
 module _ {D : Type 0} (stands_for : D → DiskState → Type 0) where
   -- ---- a batch, and its letters
 
@@ -47,51 +56,31 @@ module _ {D : Type 0} (stands_for : D → DiskState → Type 0) where
     pub posted : (letters : List (To × List ℕ)) → (AllFit out → letters ≡ spelled_of out) → IsBatchOf stands_for last came malformed letters old new
     posted letters are = (out, record { leads = λ s stands. let r = batch.leads s stands in (r.0, (r.1, are r.1.works.fits), r.2, r.3) })
 
-    -- some of them may be sent: a beginning was spelled
-    pub sendable : (letters : List (To × List ℕ)) (told : ServerFault) → told ≡ server_fault.OutOfMemory
-        → (AllFit out → (k : ℕ) × (letters ≡ take k (spelled_of out))) → MaySend stands_for came letters told old
-    sendable letters told is are = inr (
-      is,
-      new,
-      last,
-      malformed,
-      out,
-      record { leads = λ s stands. let r = batch.leads s stands in (r.0, (r.1, are r.1.works.fits), r.2, r.3) },
-    )
-
-    -- an allocation failed as they were spelled
-    pub not_posted : (told : ServerFault) → told ≡ server_fault.OutOfMemory → LeadsSealed stands_for old new (BreaksStep old.cluster old.me came told)
-    not_posted told is =
-        sealed_as stands_for old new (TakesBatch last old.cluster old.me came malformed out new.releases) (BreaksStep old.cluster old.me came told)
-        (λ s t h. inr (
-          is,
-          (spelled_of out, new.releases, record { last = last; malformed = malformed; out = out; mid = t; batch = h; letters_are = refl; requests = 0; few = omega arith; takes = refl }),
-        ))
-        batch
-
-  -- all letters of a batch may be sent
-  pub all_sendable : (old new : Running D) (came : List (List ℕ)) (malformed : ℕ) (letters : List (To × List ℕ))
-      (told : ServerFault) → told ≡ server_fault.OutOfMemory → IsBatched stands_for came malformed letters old new
-      → MaySend stands_for came letters told old
-  all_sendable old new came malformed letters told is (last, (out, batch)) = inr (
-    is,
-    new,
-    last,
-    malformed,
-    out,
-    record {
-      leads = λ s stands.
-          let r = batch.leads s stands in
-          (r.0, (r.1.0, (length (spelled_of out), r.1.1 ∙ sym (take-length (spelled_of out)))), r.2, r.3);
-    },
-  )
+    -- an allocation failed as they were spelled, or after that: a beginning of them may be sent
+    pub not_posted : (letters : List (To × List ℕ)) (told : ServerFault) → told ≡ server_fault.OutOfMemory
+        → (AllFit out → (k : ℕ) × (letters ≡ take k (spelled_of out))) → EndsByStep stands_for came letters old new told
+    not_posted letters told is are = record {
+      leaves = inl (sealed_as stands_for old new (TakesBatch last old.cluster old.me came malformed out new.releases) (BreaksStep old.cluster old.me came told)
+          (λ s t h. inr (
+            is,
+            (spelled_of out, new.releases, record { last = last; malformed = malformed; out = out; mid = t; batch = h; letters_are = refl; requests = 0; few = omega arith; takes = refl }),
+          ))
+          batch);
+      may_send = inr (is, new, last, malformed, out, record { leads = λ s stands. let r = batch.leads s stands in (r.0, (r.1, are r.1.works.fits), r.2, r.3) });
+      ends = subst EndsLaps (sym is) tt;
+    }
 
   -- a batch that ends its server
-  pub batch_broke : (old new : Running D) (last : LastCall) (came : List (List ℕ)) (why : NodeFault) (told : ServerFault) → told ≡ of_node why
-      → LeadsSealed stands_for old new (GivesUpBatch last old.cluster old.me came why) ⊎ (IsStop why × LosesBatch stands_for last came old new)
-      → LeadsSealed stands_for old new (BreaksStep old.cluster old.me came told) ⊎ LosesStep stands_for came old new told
-  batch_broke old new last came why told is (inl h) = inl (sealed_as stands_for old new (GivesUpBatch last old.cluster old.me came why) (BreaksStep old.cluster old.me came told) (λ s t g. inl (last, why, is, g)) h)
-  batch_broke old new last came why told is (inr h) = inr (is ∙ stops why h.0, (last, h.1))
+  pub batch_broke : (old new : Running D) (last : LastCall) (came : List (List ℕ)) (letters : List (To × List ℕ)) (why : NodeFault) (told : ServerFault) → told ≡ of_node why → letters ≡ []
+      → LeadsSealed stands_for old new (GivesUpBatch last old.cluster old.me came why) ⊎ (IsStop why × LosesBatch stands_for last came old new) → EndsByStep stands_for came letters old new told
+  batch_broke old new last came letters why told is none broke = record {
+    leaves = ⊎_elim
+        (λ h. inl (sealed_as stands_for old new (GivesUpBatch last old.cluster old.me came why) (BreaksStep old.cluster old.me came told) (λ s t g. inl (last, why, is, g)) h))
+        (λ h. inr (is ∙ stops why h.0, (last, h.1)))
+        broke;
+    may_send = inl none;
+    ends = subst EndsLaps (sym is) (ends_laps why);
+  }
 
   -- ---- then requests are answered
 
@@ -108,10 +97,16 @@ module _ {D : Type 0} (stands_for : D → DiskState → Type 0) where
           (λ s t u h takes. record { last = b.0; malformed = malformed; out = b.1.0; mid = t; batch = h.0; letters_are = h.1; requests = k; few = few; takes = takes })
           b.1.1)
 
-      -- an allocation failed for one
-      pub not_answered : (told : ServerFault) → told ≡ server_fault.OutOfMemory → LeadsSealed stands_for old new.node (BreaksStep old.cluster old.me came told)
+      -- an allocation failed for one: all letters of the batch may be sent
+      pub not_answered : (told : ServerFault) → told ≡ server_fault.OutOfMemory → EndsByStep stands_for came letters old new.node told
       not_answered told is =
-          sealed_as stands_for old new.node (TakesStep old.cluster old.me came letters new.node.releases) (BreaksStep old.cluster old.me came told) (λ s t h. inr (is, (letters, new.node.releases, h))) answered
+          let b = batched in
+          let all = spelled_of b.1.0 in
+          record {
+            leaves = inl (sealed_as stands_for old new.node (TakesStep old.cluster old.me came letters new.node.releases) (BreaksStep old.cluster old.me came told) (λ s t h. inr (is, (letters, new.node.releases, h))) answered);
+            may_send = inr (is, mid.node, b.0, malformed, b.1.0, record { leads = λ s stands. let r = b.1.1.leads s stands in (r.0, (r.1.0, (length all, r.1.1 ∙ sym (take-length all))), r.2, r.3) });
+            ends = subst EndsLaps (sym is) tt;
+          }
 
   -- ---- a pass
 
@@ -151,14 +146,23 @@ module _ {D : Type 0} (stands_for : D → DiskState → Type 0) where
 
   -- ---- a server's work
 
-  pub not_ready : (code : Running D) (n p count : ℕ) (why told : ServerFault) → told ≡ why → (why ≡ server_fault.OutOfMemory) ⊎ (why ≡ server_fault.Write) → Led stands_for code code (BreaksWork n p count told)
-  not_ready code n p count why told is cause = subst (λ w. Led stands_for code code (BreaksWork n p count w)) (sym is) (none_led stands_for code (BreaksWork n p count why) (λ s. inl (cause, refl, refl)))
+  module _ (old new : Running D) (count : ℕ) where
+    pub halts : {T : Type 0} (r : Result T ServerFault) (why : ServerFault) → IsErrAnd r (λ y. y ≡ why) → Led stands_for old new (BreaksWork old.cluster old.me count why) ⊎ LosesPasses stands_for old new count why
+        → EndsWork stands_for count old new r
+    halts (Ok x) why told how = absurd told
+    halts (Err y) why told how = record { passes = tt; halted = subst (λ w. Led stands_for old new (BreaksWork old.cluster old.me count w) ⊎ LosesPasses stands_for old new count w) (sym told) how }
 
-  pub passes_end : (old new : Running D) (n p count : ℕ) (why told : ServerFault) → told ≡ why → Led stands_for old new (BreaksPasses n p count why) ⊎ LosesPasses stands_for old new count why
-      → Led stands_for old new (BreaksWork n p count told) ⊎ LosesPasses stands_for old new count told
-  passes_end old new n p count why told is (inl h) =
-      inl (widened stands_for old new (BreaksPasses n p count why) (BreaksWork n p count told) (λ through s t b. inr (inl (subst (λ w. BreaksPasses n p count w through s t) (sym is) b))) h)
-  passes_end old new n p count why told is (inr h) = inr (subst (λ w. LosesPasses stands_for old new count w) (sym is) h)
+    pub passes_end : (why : ServerFault) → Led stands_for old new (BreaksPasses old.cluster old.me count why) ⊎ LosesPasses stands_for old new count why
+        → Led stands_for old new (BreaksWork old.cluster old.me count why) ⊎ LosesPasses stands_for old new count why
+    passes_end why (inl h) = inl (widened stands_for old new (BreaksPasses old.cluster old.me count why) (BreaksWork old.cluster old.me count why) (λ through s t b. inr (inl b)) h)
+    passes_end why (inr h) = inr h
 
-  pub not_told : (old new : Running D) (n p count : ℕ) (fed : List (List ℕ)) (why : ServerFault) → why ≡ server_fault.Write → Led stands_for old new (TakesPasses n p count fed) → Led stands_for old new (BreaksWork n p count why)
-  not_told old new n p count fed why is h = widened stands_for old new (TakesPasses n p count fed) (BreaksWork n p count why) (λ through s t r. inr (inr (is, fed, r))) h
+    pub all_told : {T : Type 0} (r : Result T ServerFault) → IfErr r (λ why. why ≡ server_fault.Write) → Led stands_for old new (TakesPasses old.cluster old.me count new.releases) → EndsWork stands_for count old new r
+    all_told (Ok x) told led = record { passes = led; halted = tt }
+    all_told (Err why) told led = record {
+      passes = tt;
+      halted = inl (widened stands_for old new (TakesPasses old.cluster old.me count new.releases) (BreaksWork old.cluster old.me count why) (λ through s t r. inr (inr (told, new.releases, r))) led);
+    }
+
+  pub not_ready : (code : Running D) (n p count : ℕ) (why : ServerFault) → (why ≡ server_fault.OutOfMemory) ⊎ (why ≡ server_fault.Write) → Led stands_for code code (BreaksWork n p count why)
+  not_ready code n p count why cause = none_led stands_for code (BreaksWork n p count why) (λ s. inl (cause, refl, refl))

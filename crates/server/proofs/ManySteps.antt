@@ -1,6 +1,5 @@
 -- What requests leave of a node, and steps one after another.
-use Rattle.std.proofs.Common.{◌≡◌, ◌⊎◌, inl, inr, ⊎_elim, ℕ, zero, suc, Some, None, List, [], ◌∷◌, ◌++◌, length, Result, Ok, Err, refl, sym, subst, ◌∙◌, false}
-use Rattle.std.specs.Result.{IfErr}
+use Rattle.std.proofs.Common.{◌≡◌, ◌⊎◌, inl, inr, ⊎_elim, ℕ, zero, suc, Some, None, List, [], ◌∷◌, ◌++◌, length, Ok, Err, refl, sym, subst, ◌∙◌, false}
 use Rattle.site_disk.specs.Model.{DiskState, LeavesOnly}
 use Rattle.command.specs.Written.{value_of}
 use Rattle.http_serve.specs.Services.{Outcome, MaySubmit, MaySubmitMany}
@@ -21,10 +20,6 @@ use Rattle.site_drive.specs.Leading.{StaysWhose}
 use Rattle.server.specs.Passes.{MayTake, MayTakeMany, AreSteps, last_of, IsOneOf, Led}
 use Rattle.server_clients.specs.Served.{ComesTo, offered}
 use Rattle.server_clients.specs.declared.served.Served.{Served}
-
-pub if_err_gives : {T E : Type 0} {P Q : E → Type 0} (r : Result T E) → IfErr r P → ((e : E) → P e → Q e) → IfErr r Q
-if_err_gives (Ok x) h f = tt
-if_err_gives (Err e) h f = f e h
 
 -- ---- requests
 

@@ -3,7 +3,7 @@ use Rattle.std.proofs.Common.{◌≡◌, ℕ, List, Result, Ok, Err, OnOk, subst
 use Rattle.site_disk.specs.Model.{DiskState}
 use Rattle.node.specs.Nodes.{Node}
 use Rattle.node.specs.declared.node.Node.{Node as Running}
-use Rattle.server.specs.Passes.{Led, LosesPasses}
+use Rattle.server.specs.Passes.{Led, EndsWork}
 use Rattle.server.specs.Runs.{IsOpened, IsRun}
 use Rattle.server_faults.specs.declared.server_fault.ServerFault.{ServerFault}
 
@@ -26,8 +26,5 @@ run_of {D} {stands_for} n p How opened ended is led = record {
 }
 
 -- so many passes, by another count
-pub as_many : {D : Type 0} {stands_for : D → DiskState → Type 0} {old new : Running D} {k wanted : ℕ} (How : ℕ → List Node → Node → Node → Type 0) → k ≡ wanted → Led stands_for old new (How k) → Led stands_for old new (How wanted)
-as_many {D} {stands_for} {old} {new} How same led = subst (λ (m : ℕ). Led stands_for old new (How m)) same led
-
-pub as_lost : {D : Type 0} {stands_for : D → DiskState → Type 0} {old new : Running D} {k wanted : ℕ} {why : ServerFault} → k ≡ wanted → LosesPasses stands_for old new k why → LosesPasses stands_for old new wanted why
-as_lost {D} {stands_for} {old} {new} {k} {wanted} {why} same lost = subst (λ (m : ℕ). LosesPasses stands_for old new m why) same lost
+pub as_many : {D T : Type 0} {stands_for : D → DiskState → Type 0} {old new : Running D} {k wanted : ℕ} {r : Result T ServerFault} → k ≡ wanted → EndsWork stands_for k old new r → EndsWork stands_for wanted old new r
+as_many {D} {T} {stands_for} {old} {new} {k} {wanted} {r} same ends = subst (λ (m : ℕ). EndsWork stands_for m old new r) same ends

@@ -1,6 +1,6 @@
 -- What a server does with its node: passes, each a batch of what came, and then requests of clients.
 use Rattle.std.specs.Prelude.{◌≡◌, ◌≢◌, ◌⊎◌, ℕ, zero, suc, ◌+◌, ◌*◌, ◌<◌, ◌≤◌, List, [], ◌∷◌, ◌++◌, length}
-use Rattle.std.specs.Prelude.{take, ⊤, Bool, IsTrue, ◌↔◌}
+use Rattle.std.specs.Prelude.{take, ⊤, Bool, IsTrue, ◌↔◌, Result, OnOk, IfErr}
 use Rattle.site_ids.specs.Lists.{In}
 use Rattle.site_ids.specs.declared.Ticket.{Ticket}
 use Rattle.wire.specs.declared.message.Message.{Message}
@@ -22,7 +22,7 @@ use Rattle.server_pace.specs.Pacing.{CallsDue, HearsBatch}
 use Rattle.server_pace.specs.declared.pace.Pace.{Pace}
 use Rattle.server.specs.Mailing.{waiting_of, HasRoom}
 use Rattle.server.specs.declared.mail.Mail.{Mail}
-use Rattle.server_faults.specs.ServerFaults.{of_node}
+use Rattle.server_faults.specs.ServerFaults.{of_node, EndsLaps}
 use Rattle.server_clients.specs.Served.{ComesTo}
 use Rattle.server_faults.specs.declared.server_fault.ServerFault.{ServerFault}
 use Rattle.server_faults.specs.declared.server_fault.ServerFault.TheVariants as server_fault
@@ -191,6 +191,14 @@ abbrev pub LosesStep : {D : Type 0} → (D → DiskState → Type 0) → List (L
 LosesStep stands_for came old new why = (why ≡ server_fault.Stopped)
     × ((last : LastCall) × LosesBatch stands_for last came old new)
 
+-- what a step leaves that ends its server with this fault, and what may still be sent
+pub record EndsByStep {D : Type 0} (stands_for : D → DiskState → Type 0) (came : List (List ℕ))
+    (letters : List (To × List ℕ)) (old new : Running D) (why : ServerFault) : Type 0 where
+  pub leaves : LeadsSealed stands_for old new (BreaksStep old.cluster old.me came why)
+      ⊎ LosesStep stands_for came old new why
+  pub may_send : MaySend stands_for came letters why old
+  pub ends : EndsLaps why
+
 -- the device failed in a pass
 abbrev pub LosesPass : {D : Type 0} → (D → DiskState → Type 0) → Running D → Running D → ServerFault → Type 0
 LosesPass stands_for old new why = (came : List (List ℕ)) × LosesStep stands_for came old new why
@@ -204,3 +212,10 @@ pub record LosesPasses {D : Type 0} (stands_for : D → DiskState → Type 0) (o
   pub fed : List (List ℕ)
   pub taken : Led stands_for old mid (TakesPasses old.cluster old.me whole fed)
   pub loses : LosesPass stands_for mid new why
+
+-- all these passes are taken; or the work is not done, or the device failed in one of them
+pub record EndsWork {D T : Type 0} (stands_for : D → DiskState → Type 0) (count : ℕ) (old new : Running D)
+    (result : Result T ServerFault) : Type 0 where
+  pub passes : OnOk result (Led stands_for old new (TakesPasses old.cluster old.me count new.releases))
+  pub halted : IfErr result (λ why. Led stands_for old new (BreaksWork old.cluster old.me count why)
+      ⊎ LosesPasses stands_for old new count why)

@@ -1,11 +1,11 @@
 //! A server: its parts opened in order, and its laps.
 
-ghost use Rattle.std.specs.Prelude.{◌≡◌, ◌⊎◌, IfOk, OnOk, IfErr, length};
+ghost use Rattle.std.specs.Prelude.{◌≡◌, IfOk, OnOk, IfErr, length};
 ghost use Rattle.http_read.specs.Bytes.{end_of};
 ghost use Rattle.server_faults.specs.ServerFaults.{EndsOpening};
 ghost use Rattle.site_ids.specs.Ids.{IsNode};
 ghost use Rattle.server.specs.Placing.{IsPlaced};
-ghost use Rattle.server.specs.Passes.{Led, TakesPasses, BreaksWork, LosesPasses, passes_of};
+ghost use Rattle.server.specs.Passes.{TakesPasses, EndsWork, passes_of};
 ghost use Rattle.server.specs.Runs.{IsOpened, IsRun};
 ghost use Rattle.server.specs.Running.{EndsBefore, WorkEnds, RunEnds, HasServed};
 
@@ -126,15 +126,8 @@ fn work<R: Files<File = File> + Clock, W: Write, E: Write>(
 ) -> Result<(), ServerFault>
     ensures said { WorkEnds options.now.verbose (end_of W.contents out.old out.new)
         (end_of E.contents err.old err.new) options.now.id result }
-    ensures passes { OnOk result
-        (Led ⟦<FileDisk as Disk>⟧.stands_for server.old.served.node server.new.served.node
-        (TakesPasses server.old.served.node.cluster server.old.served.node.me count
-        server.new.served.node.releases)) }
-    ensures halted { IfErr result (λ why.
-        Led ⟦<FileDisk as Disk>⟧.stands_for server.old.served.node server.new.served.node
-        (BreaksWork server.old.served.node.cluster server.old.served.node.me count why)
-        ⊎ LosesPasses ⟦<FileDisk as Disk>⟧.stands_for server.old.served.node server.new.served.node
-        count why) }
+    ensures laps { EndsWork ⟦<FileDisk as Disk>⟧.stands_for count server.old.served.node
+        server.new.served.node result }
 {
     say_ready(alloc, out, options.id)?;
     take_passes(rt, alloc, err, shell, server, count, options)?;
@@ -153,16 +146,8 @@ fn start<R: Files<File = File> + Clock, W: Write, E: Write>(
 ) -> Result<(), ServerFault>
     ensures said { WorkEnds options.now.verbose (end_of W.contents out.old out.new)
         (end_of E.contents err.old err.new) options.now.id result }
-    ensures laps { OnOk result
-        (Led ⟦<FileDisk as Disk>⟧.stands_for server.old.served.node server.new.served.node
-        (TakesPasses server.old.served.node.cluster server.old.served.node.me
-        (passes_of options.now.id options.now.rounds) server.new.served.node.releases)) }
-    ensures halted { IfErr result (λ why.
-        Led ⟦<FileDisk as Disk>⟧.stands_for server.old.served.node server.new.served.node
-        (BreaksWork server.old.served.node.cluster server.old.served.node.me
-        (passes_of options.now.id options.now.rounds) why)
-        ⊎ LosesPasses ⟦<FileDisk as Disk>⟧.stands_for server.old.served.node server.new.served.node
-        (passes_of options.now.id options.now.rounds) why) }
+    ensures laps { EndsWork ⟦<FileDisk as Disk>⟧.stands_for (passes_of options.now.id options.now.rounds)
+        server.old.served.node server.new.served.node result }
 {
     let count = count_passes(options.id, options.rounds);
     work(rt, alloc, out, err, shell, server, count, options)

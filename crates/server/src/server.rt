@@ -1,6 +1,6 @@
 //! A server without sockets and clock.
 
-ghost use Rattle.std.specs.Prelude.{◌≡◌, ◌⊎◌, ◌↔◌, ◌||◌, [], ℕ, IfOk, IfErr, IfSome, IsFalse, IsSome, OnOk};
+ghost use Rattle.std.specs.Prelude.{◌≡◌, ◌↔◌, ◌||◌, [], ℕ, IfOk, IfErr, IfSome, IsFalse, IsSome, OnOk};
 ghost use Rattle.std.specs.Prelude.{length, true, false};
 ghost use Rattle.node.specs.Standing.{KeepsOthers, failures};
 ghost use Rattle.site_drive.specs.Batches.{TakesBatch, LeadsSealed};
@@ -8,15 +8,14 @@ ghost use Rattle.site_drive.specs.Leading.{StaysWhose};
 ghost use Rattle.site_drive.specs.Posting.{spelled_of};
 ghost use Rattle.site_drive.specs.declared.last_call.LastCall.{LastCall};
 ghost use Rattle.server_clients.specs.Answering.{TellsAnswered};
-ghost use Rattle.server_faults.specs.ServerFaults.{CountsNone, EndsLaps};
+ghost use Rattle.server_faults.specs.ServerFaults.{CountsNone};
 ghost use Rattle.server_pace.specs.Pacing.{empty_after, first_pace, resting_of, Rests};
 ghost use Rattle.server_pace.specs.Returning.{returning_of};
 ghost use Rattle.server_times.specs.Timing.{rest_after};
 ghost use Rattle.server.specs.Returning.{AnswersOrLeaves, ComesBack, IsBack};
 ghost use Rattle.server.specs.Mailing.{waiting_of, posted_of, own_of, has_come};
 ghost use Rattle.server.specs.Speaking.{no_peers};
-ghost use Rattle.server.specs.Passes.{AreSenders, TakesStep, BreaksStep, LosesStep, IsBatchOf, MaySend};
-ghost use Rattle.server.specs.Passes.{Paces};
+ghost use Rattle.server.specs.Passes.{AreSenders, TakesStep, EndsByStep, IsBatchOf, Paces};
 ghost use Rattle.server_clients.specs.Served.{offered};
 ghost use Rattle.server_clients.specs.declared.served.Served.{Served};
 
@@ -116,15 +115,8 @@ impl<D: Disk + Drop, S: Drop> Server<D, S> {
         ensures seats { self.new.seats ≡ self.old.seats }
         ensures returning { self.new.returning ≡ self.old.returning }
         ensures me { self.new.me ≡ self.old.me }
-        ensures fault { IfErr result (λ why.
-            LeadsSealed D.stands_for self.old.served.node self.new.served.node
-            (BreaksStep self.old.served.node.cluster self.old.served.node.me (waiting_of self.old.mail) why)
-            ⊎ LosesStep D.stands_for (waiting_of self.old.mail) self.old.served.node self.new.served.node
-            why) }
-        ensures may_send { IfErr result (λ why.
-            MaySend D.stands_for (waiting_of self.old.mail) (posted_of self.new.mail) why
-            self.old.served.node) }
-        ensures ends { IfErr result EndsLaps }
+        ensures fault { IfErr result (EndsByStep D.stands_for (waiting_of self.old.mail)
+            (posted_of self.new.mail) self.old.served.node self.new.served.node) }
         ensures whose { StaysWhose self.old.served.node self.new.served.node }
         ensures counts { CountsNone result (failures D.failed self.old.served.node)
             (failures D.failed self.new.served.node) }
@@ -176,15 +168,8 @@ impl<D: Disk + Drop, S: Drop> Server<D, S> {
             × (self.new.mail.cluster ≡ self.old.mail.cluster) }
         ensures same { (self.new.me ≡ self.old.me) × (self.new.returning ≡ self.old.returning)
             × (self.new.seats.times ≡ self.old.seats.times) }
-        ensures fault { IfErr result (λ why.
-            LeadsSealed D.stands_for self.old.served.node self.new.served.node
-            (BreaksStep self.old.served.node.cluster self.old.served.node.me (waiting_of self.old.mail) why)
-            ⊎ LosesStep D.stands_for (waiting_of self.old.mail) self.old.served.node self.new.served.node
-            why) }
-        ensures may_send { IfErr result (λ why.
-            MaySend D.stands_for (waiting_of self.old.mail) (posted_of self.new.mail) why
-            self.old.served.node) }
-        ensures ends { IfErr result EndsLaps }
+        ensures fault { IfErr result (EndsByStep D.stands_for (waiting_of self.old.mail)
+            (posted_of self.new.mail) self.old.served.node self.new.served.node) }
         ensures whose { StaysWhose self.old.served.node self.new.served.node }
         ensures counts { CountsNone result (failures D.failed self.old.served.node)
             (failures D.failed self.new.served.node) }

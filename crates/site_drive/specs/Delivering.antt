@@ -1,11 +1,13 @@
 -- What is noted of the messages that a drive or a batch delivered.
 use Rattle.std.specs.Prelude.{◌≡◌, ◌⊎◌, ℕ, ◌+◌, ◌-◌, ◌^◌, min, List, [], ◌∷◌, replicate, set, Bool, true}
-use Rattle.std.specs.Prelude.{false, if◌then◌else◌, Option, Some, None}
+use Rattle.std.specs.Prelude.{false, if◌then◌else◌, Option, Some, None, ◌≤◌, length, Vec, Result, IfOk, OnOk}
+use Rattle.std.specs.declared.alloc.Global.{Global}
 use Rattle.site_ids.specs.NodeSets.{no_nodes, with_node}
 use Rattle.wire.specs.Decoding.{Spells}
 use Rattle.wire.specs.Messages.{sender_of}
 use Rattle.wire.specs.declared.message.Message.{Message}
 use Rattle.wire.specs.declared.message.Message.TheVariants.{Prepare, Promise, Propose, Nack, Ask}
+use Rattle.site_drive.specs.Posting.{bytes_of}
 use Rattle.site_drive.specs.declared.delivered.Delivered.{Delivered}
 
 -- the instance that each node's last question was for; node p is at index p - 1
@@ -57,3 +59,9 @@ IsNoted n bytes old new = ((m : Message) × Spells n bytes m × (new ≡ noted m
 abbrev pub AreNoted : ℕ → List (List ℕ) → Delivered → Delivered → Type 0
 AreNoted n [] old new = new ≡ old
 AreNoted n (bytes ∷ came) old new = (mid : Delivered) × IsNoted n bytes old mid × AreNoted n came mid new
+
+-- no more of these datagrams spelled no message than there are, and what all of them add is noted
+pub record NotesBatch {E : Type 0} (n : ℕ) (came : List (Vec ℕ Global)) (before after : Delivered)
+    (result : Result ℕ E) : Type 0 where
+  pub few : IfOk result (λ malformed. malformed ≤ length came)
+  pub noted : OnOk result (AreNoted n (bytes_of came) before after)

@@ -3,9 +3,9 @@
 //!
 //! If a batch cannot be begun because an allocation fails, it is given up, and the server ends.
 
-ghost use Rattle.std.specs.Prelude.{◌≡◌, ◌⊎◌, ◌≤◌, [], Bool, true, length, IfOk, IfErr, IsErrOf, OnOk, OnErr};
+ghost use Rattle.std.specs.Prelude.{◌≡◌, ◌⊎◌, [], Bool, true, IfOk, IfErr, IsErrOf, OnOk, OnErr};
 ghost use Rattle.node.specs.Standing.{IsNodeOf, StaysOnDisk, KeepsOthers, CountsDevice, failures};
-ghost use Rattle.site_drive.specs.Delivering.{AreNoted, none_noted};
+ghost use Rattle.site_drive.specs.Delivering.{NotesBatch, none_noted};
 ghost use Rattle.site_drive.specs.Batches.{TakesEach, Works, GivesUpTaking, GivesUpWork, EndsBatch};
 ghost use Rattle.site_drive.specs.Leading.{AllFit, NodeLeads};
 ghost use Rattle.site_drive.specs.Posting.{bytes_of};
@@ -33,9 +33,7 @@ impl Desk {
             (bytes_of came.now) malformed self.new.outbox.items s next × AllFit self.new.outbox.items)) }
         ensures fault { IfErr result (λ why. NodeLeads D.stands_for node.old node.new
             (GivesUpTaking node.old.cluster node.old.me (bytes_of came.now) why)) }
-        ensures few { IfOk result (λ malformed. malformed ≤ length came.now) }
-        ensures noted { OnOk result (AreNoted node.old.cluster
-            (bytes_of came.now) self.old.delivered self.new.delivered) }
+        ensures noted { NotesBatch node.old.cluster came.now self.old.delivered self.new.delivered result }
         ensures others { KeepsOthers node.old node.new }
         ensures counts { CountsDevice result (failures D.failed node.old) (failures D.failed node.new) }
     {
@@ -65,9 +63,7 @@ impl Desk {
             (Works last node.old.cluster node.old.me (bytes_of came.now) malformed self.new.outbox.items)) }
         ensures fault { IfErr result (λ why. NodeLeads D.stands_for node.old node.new
             (GivesUpWork last node.old.cluster node.old.me (bytes_of came.now) why)) }
-        ensures few { IfOk result (λ malformed. malformed ≤ length came.now) }
-        ensures noted { OnOk result (AreNoted node.old.cluster
-            (bytes_of came.now) self.old.delivered self.new.delivered) }
+        ensures noted { NotesBatch node.old.cluster came.now self.old.delivered self.new.delivered result }
         ensures others { KeepsOthers node.old node.new }
         ensures counts { CountsDevice result (failures D.failed node.old) (failures D.failed node.new) }
     {
@@ -87,9 +83,7 @@ impl Desk {
         requires { self.old.outbox.items ≡ [] }
         ensures ends { EndsBatch D.stands_for D.failed last
             (bytes_of came.now) self.new.outbox.items node.old node.new result }
-        ensures few { IfOk result (λ malformed. malformed ≤ length came.now) }
-        ensures noted { OnOk result (AreNoted node.old.cluster
-            (bytes_of came.now) self.old.delivered self.new.delivered) }
+        ensures noted { NotesBatch node.old.cluster came.now self.old.delivered self.new.delivered result }
     {
         node.begin()?;
         let malformed = match self.work(node, came, last) {
@@ -142,9 +136,7 @@ impl Desk {
         requires { self.old.outbox.items ≡ [] }
         ensures ends { EndsBatch D.stands_for D.failed last
             (bytes_of came.now) self.new.outbox.items node.old node.new result }
-        ensures few { IfOk result (λ malformed. malformed ≤ length came.now) }
-        ensures noted { OnOk result (AreNoted node.old.cluster
-            (bytes_of came.now) self.old.delivered self.new.delivered) }
+        ensures noted { NotesBatch node.old.cluster came.now self.old.delivered self.new.delivered result }
     {
         self.make_room(node, came.is_empty())?;
         self.take_sealed(node, came, last)
@@ -166,9 +158,7 @@ impl Desk {
     ) -> Result<usize, NodeFault>
         ensures ends { EndsBatch D.stands_for D.failed last
             (bytes_of came.now) self.new.outbox.items node.old node.new result }
-        ensures few { IfOk result (λ malformed. malformed ≤ length came.now) }
-        ensures noted { OnOk result (AreNoted node.old.cluster
-            (bytes_of came.now) none_noted self.new.delivered) }
+        ensures noted { NotesBatch node.old.cluster came.now none_noted self.new.delivered result }
         ensures nothing { OnErr result (self.new.outbox.items ≡ []) }
     {
         self.outbox.clear();

@@ -12,7 +12,7 @@ returns-in_err-heard-clause-fault g c = err_gives c.from_residual.result c.from_
 
 pub returns-in_err-stepped-clause-fault : goal.returns-in_err-stepped-clause-fault
 returns-in_err-stepped-clause-fault g c = err_gives c.from_residual-in_err-stepped.result c.from_residual-in_err-stepped.ensures.1 λ e is.
-    step_broke g.D.Disk.stands_for c.args.server.now.served.node c.step.new.self.served.node _ _ (waiting_of c.take_in.new.mail) _ e is c.in_err-stepped.ensures.fault
+    step_broke g.D.Disk.stands_for c.args.server.now.served.node c.step.new.self.served.node _ _ (waiting_of c.take_in.new.mail) _ e is c.in_err-stepped.ensures.fault.leaves
 
 pub returns-clause-ok : goal.returns-clause-ok
 returns-clause-ok g c =

@@ -1,6 +1,7 @@
-use Rattle.std.proofs.Common.{ap, Err, refl, sym, ◌∙◌}
-use Rattle.node.proofs.Lengthening.{loses_nothing, grows_at, over_another}
+use Rattle.std.proofs.Common.{ap, Err, refl, sym, rules, ◌∙◌}
+use Rattle.node.proofs.Lengthening.{loses_nothing, grows_at}
 use Rattle.node.proofs.Sealing.{device_below}
+use Rattle.node.proofs.Stepping.{over_another}
 use Rattle.node.proofs.node.Node.grow.Goals as goal
 
 pub returns-in_err-grow-clause-lost : goal.returns-in_err-grow-clause-lost
@@ -14,20 +15,6 @@ returns-clause-grown g c = λ s d stands on.
     grows_at g.D.Disk.stands_for c.args.self.now s c.in_ok-grow.ensures.running.0 stands _ d _ c.in_ok-grow.field-0 refl refl c.in_ok-grow.ensures.grown on
 
 pub returns-clause-same : goal.returns-clause-same
-returns-clause-same g c s stands =
-    let parts = stands.parts in
+returns-clause-same g c s =
     let running = c.in_ok-grow.ensures.running in
-    record {
-      parts = record {
-        on_record = over_another c.args.self.now.store c.grow.new.self _ _ _ _ c.grow.ensures.same (running.1 ∙ sym running.0) parts.on_record;
-        votes = parts.votes;
-        known = parts.known;
-        attempts = parts.attempts;
-        pending = parts.pending;
-        heard = parts.heard;
-        reached = parts.reached;
-      };
-      tidy = stands.tidy;
-      ranges = stands.ranges;
-      fed = stands.fed;
-    }
+    over_another _ _ s (search rules) (search rules) refl (running.1 ∙ sym running.0) (ap (λ r. r.recorded) c.grow.ensures.same)

@@ -1,17 +1,17 @@
-use Rattle.std.proofs.Common.{inl, subst, ◌∙◌}
+use Rattle.std.proofs.Common.{subst, ◌∙◌}
 use Rattle.site_drive.proofs.ManyTurns.{stays_on}
 use Rattle.site_drive.proofs.Results.{err_gives}
 use Rattle.site_drive.proofs.Sealing.{of_others}
 use Rattle.server.specs.Returning.{AnswersOrLeaves}
 use Rattle.server.proofs.Failing.{requests_kept, none_failed}
 use Rattle.server.proofs.ManySteps.{many_others}
-use Rattle.server.proofs.ManyPasses.{answered, not_answered, all_sendable}
+use Rattle.server.proofs.ManyPasses.{answered, not_answered}
 use Rattle.server.proofs.server.Server.step.Goals as goal
 
 pub returns-in_err-answered-clause-fault : goal.returns-in_err-answered-clause-fault
 returns-in_err-answered-clause-fault g c = err_gives c.from_residual-in_err-answered.result c.from_residual-in_err-answered.ensures.1 λ e is.
     let taken = c.answer.ensures.taken in
-    inl (not_answered g.D.Disk.stands_for c.args.self.now.served.node c.take_batch.new.self.served c.answer.new.served _ _ _ c.take_batch.ensures.whose (c.in_ok-batched.ensures.ok.0, c.in_ok-batched.ensures.ok.1) taken.0 taken.1 taken.2 e is)
+    not_answered g.D.Disk.stands_for c.args.self.now.served.node c.take_batch.new.self.served c.answer.new.served _ _ _ c.take_batch.ensures.whose (c.in_ok-batched.ensures.ok.0, c.in_ok-batched.ensures.ok.1) taken.0 taken.1 taken.2 e is
 
 pub returns-in_err-answered-clause-whose : goal.returns-in_err-answered-clause-whose
 returns-in_err-answered-clause-whose g c =
@@ -52,7 +52,3 @@ returns-clause-clients g c =
       subst (λ seats. AnswersOrLeaves c.args.self.now.returning c.args.now seats.times mid.served served seats.seats.items seated.seats.items)
           c.take_batch.ensures.seats each,
     )
-
-pub returns-in_err-answered-clause-may_send : goal.returns-in_err-answered-clause-may_send
-returns-in_err-answered-clause-may_send g c = err_gives c.from_residual-in_err-answered.result c.from_residual-in_err-answered.ensures.1 λ e is.
-    all_sendable g.D.Disk.stands_for c.args.self.now.served.node c.take_batch.new.self.served.node _ _ _ e is (c.in_ok-batched.ensures.ok.0, c.in_ok-batched.ensures.ok.1)

@@ -1,6 +1,5 @@
-use Rattle.std.proofs.Common.{subst}
-use Rattle.site_drive.specs.Delivering.{AreNoted}
-use Rattle.site_drive.specs.Posting.{bytes_of}
+use Rattle.std.proofs.Common.{Ok, subst}
+use Rattle.site_drive.specs.Delivering.{NotesBatch}
 use Rattle.site_drive.proofs.desk.Desk.take_batch.Goals as goal
 
 pub returns-in-Err-clause-ends : goal.returns-in-Err-clause-ends
@@ -9,4 +8,4 @@ returns-in-Err-clause-ends g c =
 
 pub returns-in-Ok-clause-noted : goal.returns-in-Ok-clause-noted
 returns-in-Ok-clause-noted g c =
-    subst (λ d. AreNoted c.args.node.now.cluster (bytes_of c.args.came.now) d c.take_with_room.new.self.delivered) c.none-self.ensures c.in-Ok.ensures.noted
+    subst (λ d. NotesBatch c.args.node.now.cluster c.args.came.now d c.take_with_room.new.self.delivered (Ok c.in-Ok.malformed)) c.none-self.ensures c.in-Ok.ensures.noted

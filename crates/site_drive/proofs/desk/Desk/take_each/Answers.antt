@@ -1,4 +1,4 @@
-use Rattle.std.proofs.Common.{Some, refl, sym, subst, ◌∙◌, arith}
+use Rattle.std.proofs.Common.{Some, refl, sym, subst, ◌∙◌, arith, rules}
 use Rattle.site_drive.specs.Delivering.{IsNoted}
 use Rattle.site_drive.specs.Drives.{BreaksOff}
 use Rattle.site_drive.specs.Leading.{NodeLeads, TakesIn}
@@ -71,5 +71,4 @@ returns-clause-counts g c = all_fine _ _ _ c.loop-datagram.invariant.counts
 
 pub returns-clause-noted : goal.returns-clause-noted
 returns-clause-noted g c =
-    all_noted (λ d. d.items) c.args.came.now c.loop-datagram.datagram-index c.args.node.now.cluster c.args.self.now.delivered c.loop-datagram.self.delivered c.loop-datagram.invariant.noted
-    c.loop-datagram-test.false
+    record { few = search rules; noted = all_noted (λ d. d.items) c.args.came.now c.loop-datagram.datagram-index c.args.node.now.cluster c.args.self.now.delivered c.loop-datagram.self.delivered c.loop-datagram.invariant.noted c.loop-datagram-test.false }

@@ -1,7 +1,7 @@
-use Rattle.std.proofs.Common.{◌≡◌, inl, inr, ⊎_elim, Err, refl, ap, subst, rules, ◌∙◌}
+use Rattle.std.proofs.Common.{◌≡◌, inl, inr, ⊎_elim, Ok, Err, refl, ap, subst, rules, ◌∙◌}
 use Rattle.node.specs.declared.fault.NodeFault.TheVariants as fault
 use Rattle.site_drive.specs.Batches.{Works, GivesUpWork}
-use Rattle.site_drive.specs.Delivering.{AreNoted}
+use Rattle.site_drive.specs.Delivering.{NotesBatch}
 use Rattle.site_drive.specs.Leading.{NodeLeads}
 use Rattle.site_drive.specs.Posting.{bytes_of}
 use Rattle.site_drive.proofs.Batching.{of_same_node}
@@ -155,4 +155,4 @@ returns-clause-ends g c =
 
 pub returns-clause-noted : goal.returns-clause-noted
 returns-clause-noted g c =
-    subst (λ n. AreNoted n (bytes_of c.args.came.now) c.args.self.now.delivered c.work.new.self.delivered) c.begin.ensures.keeps.cluster c.in-Ok.ensures.noted
+    subst (λ n. NotesBatch n c.args.came.now c.args.self.now.delivered c.work.new.self.delivered (Ok c.in-Ok.malformed)) c.begin.ensures.keeps.cluster c.in-Ok.ensures.noted

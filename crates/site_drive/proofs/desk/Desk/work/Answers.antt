@@ -1,8 +1,8 @@
-use Rattle.std.proofs.Common.{◌≡◌, ◌++◌, List, sym, subst, ◌∙◌}
+use Rattle.std.proofs.Common.{◌≡◌, ◌++◌, Ok, List, sym, subst, ◌∙◌}
 use Rattle.wire.specs.declared.message.Message.{Message}
 use Rattle.node.specs.declared.to.To.{To}
 use Rattle.node.specs.Standing.{ending_by}
-use Rattle.site_drive.specs.Delivering.{AreNoted}
+use Rattle.site_drive.specs.Delivering.{NotesBatch}
 use Rattle.site_drive.specs.Drives.{EndsLast, EndsTurns}
 use Rattle.site_drive.specs.Leading.{AllFit, NodeLeads}
 use Rattle.site_drive.specs.Posting.{bytes_of}
@@ -36,4 +36,4 @@ returns-clause-ok g c =
 
 pub returns-clause-noted : goal.returns-clause-noted
 returns-clause-noted g c =
-    subst (λ d. AreNoted c.args.node.now.cluster (bytes_of c.args.came.now) c.args.self.now.delivered d) (sym c.last_call.ensures.delivered) c.in_ok-malformed.ensures.noted
+    subst (λ d. NotesBatch c.args.node.now.cluster c.args.came.now c.args.self.now.delivered d (Ok c.in_ok-malformed.malformed)) (sym c.last_call.ensures.delivered) c.in_ok-malformed.ensures.noted
