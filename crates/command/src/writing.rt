@@ -1,5 +1,4 @@
 ghost use Rattle.std.specs.Prelude.{◌≡◌, IfOk};
-ghost use Rattle.byteorder.specs.Endian.{big_bytes};
 ghost use Rattle.command.specs.Written.{value_of};
 
 use byteorder::{BigEndian, ByteOrder};

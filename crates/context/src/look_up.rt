@@ -1,9 +1,9 @@
 //! `resolve` has no condition on names.
 
-ghost use Rattle.std.specs.Prelude.{◌≡◌, ◌<◌, option_map, Some, MatchOption, IfSome, List, [], ◌∷◌, length};
+ghost use Rattle.std.specs.Prelude.{◌≡◌, ◌<◌, option_map, Some, MatchOption, IfSome, [], ◌∷◌, length};
 ghost use Rattle.context.specs.View.{data_view};
 ghost use Rattle.context.specs.Stack.{stack_of};
-ghost use Rattle.context.specs.LookUp.{look_up, nearest, parts, dotted, within};
+ghost use Rattle.context.specs.LookUp.{look_up, nearest, parts, within};
 
 use crate::tree::Data;
 

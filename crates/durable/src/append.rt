@@ -1,6 +1,6 @@
 //! One entry after the present gate.
 
-ghost use Rattle.std.specs.Prelude.{◌≡◌, ◌+◌, ◌<◌, ◌≤◌, ◌^◌, ℕ, List, length, OnOk, OnErr};
+ghost use Rattle.std.specs.Prelude.{◌≡◌, ◌+◌, ◌<◌, ◌≤◌, ◌^◌, length, OnOk, OnErr};
 ghost use Rattle.site_disk.specs.Model.{DiskState, LeavesOnly, CountsFailure, IsTorn, overwritten};
 ghost use Rattle.durable.specs.Append.{IsSettled, IsClosedAt, IsOpenAt, IsAppendedOrNot};
 

@@ -2,7 +2,7 @@
 //!
 //! Each put allocates for its own entry. A batch that is open stays open if another one is begun.
 
-ghost use Rattle.std.specs.Prelude.{◌≡◌, ◌⊎◌, ◌↔◌, ◌+◌, ◌<◌, ◌≤◌, ◌^◌, ◌∷◌, [], IsOk, IsErrOf, OnOk};
+ghost use Rattle.std.specs.Prelude.{◌≡◌, ◌⊎◌, ◌↔◌, ◌+◌, ◌<◌, ◌≤◌, ◌^◌, [], IsErrOf, OnOk};
 ghost use Rattle.std.specs.Prelude.{OnErr, length, false, true};
 
 use crate::append::append;

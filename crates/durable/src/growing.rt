@@ -3,7 +3,7 @@
 //! A sync after a write that makes the file longer also writes the file system's journal. So a record's file
 //! grows before that is needed, and a batch is written over zeros.
 
-ghost use Rattle.std.specs.Prelude.{◌≡◌, ◌⊎◌, ◌↔◌, [], true, false, IsTrue, IfOk, OnErr, IsErrOf, OnOk};
+ghost use Rattle.std.specs.Prelude.{◌≡◌, ◌⊎◌, ◌↔◌, true, false, IsTrue, IfOk, OnErr, IsErrOf, OnOk};
 ghost use Rattle.std.specs.Prelude.{replicate};
 ghost use Rattle.site_disk.specs.Model.{DiskState, LeavesOnly, CountsFailure};
 ghost use Rattle.durable.specs.Append.{IsSettled};

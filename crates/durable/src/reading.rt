@@ -3,9 +3,9 @@
 //! It reads pieces of 1 MB, and a longer one for a longer batch. The buffer is allocated after the head was
 //! read, so a file that is no record is refused without an allocation.
 
-ghost use Rattle.std.specs.Prelude.{⊤, ◌≡◌, ◌≢◌, ◌⊎◌, ◌+◌, ◌≤◌, ◌<◌, ◌^◌, ◌++◌, ℕ, List, []};
+ghost use Rattle.std.specs.Prelude.{⊤, ◌≡◌, ◌⊎◌, ◌+◌, ◌≤◌, ◌<◌, ◌^◌, List, []};
 ghost use Rattle.std.specs.Prelude.{length, drop, max, min, true, false, None};
-ghost use Rattle.std.specs.Prelude.{IfOk, MatchOption, OnOk, OnErr, IsErrOf, IsTrue};
+ghost use Rattle.std.specs.Prelude.{IfOk, MatchOption, OnOk, OnErr, IsErrOf};
 ghost use Rattle.site_disk.specs.Model.{DiskState};
 ghost use Rattle.durable.specs.Counts.{CountsFault};
 ghost use Rattle.durable.specs.Entries.{Entry};

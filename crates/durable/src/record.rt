@@ -3,8 +3,8 @@
 //! Callers have to pass ballots whose node is of the `cluster`. No test reaches 4,294,967,295 bytes;
 //! `Puts.full` says what happens there.
 
-ghost use Rattle.std.specs.Prelude.{◌≡◌, ◌↔◌, ◌⊎◌, ◌+◌, ◌≤◌, ◌∷◌, ◌++◌, [], ℕ, List, Option};
-ghost use Rattle.std.specs.Prelude.{option_copied, IsTrue, OnOk, IfOk, IfErr, false, true};
+ghost use Rattle.std.specs.Prelude.{◌≡◌, ◌↔◌, ◌⊎◌, ◌+◌, ◌≤◌, ◌∷◌, ◌++◌, [], List, Option};
+ghost use Rattle.std.specs.Prelude.{option_copied, IsTrue, OnOk, IfOk, IfErr, false};
 ghost use Rattle.site_disk.specs.Model.{DiskState, after_sync};
 ghost use Rattle.durable.specs.Append.{IsSettled};
 ghost use Rattle.durable.specs.Counts.{IsCounted};

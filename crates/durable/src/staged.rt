@@ -1,6 +1,6 @@
 //! What waits to be written after a gate.
 
-ghost use Rattle.std.specs.Prelude.{◌≡◌, ◌≢◌, ◌↔◌, ◌+◌, ◌-◌, ◌<◌, ◌≤◌, ◌^◌, ◌∷◌, ◌++◌, [], ℕ, List};
+ghost use Rattle.std.specs.Prelude.{◌≡◌, ◌↔◌, ◌+◌, ◌-◌, ◌<◌, ◌≤◌, ◌^◌, ◌∷◌, ◌++◌, [], ℕ, List};
 ghost use Rattle.std.specs.Prelude.{if◌then◌else◌, IsTrue, IsOk, OnOk, OnErr, nat_lt, not, length, drop};
 ghost use Rattle.site_ids.specs.declared.TheConstants.{MAX_RECORD};
 ghost use Rattle.durable.specs.Items.{summed};

@@ -1,5 +1,5 @@
 -- A fault of a part is one of the whole.
-use Rattle.std.proofs.Common.{◌≡◌, ◌⊎◌, inl, inr, ℕ, List, slice_get, Option, Some}
+use Rattle.std.proofs.Common.{◌≡◌, inl, inr, ℕ, List, slice_get, Some}
 use Rattle.editor_common.specs.Faults.{of_talk}
 use Rattle.editor_common.specs.declared.talk_fault.TalkFault.{TalkFault}
 use Rattle.editor_common.specs.declared.talk_fault.TalkFault.TheVariants as talk

@@ -1,8 +1,8 @@
 -- The nodes of URLs, read one after the other.
-use Rattle.std.proofs.Common.{◌≡◌, ◌⊎◌, Result, Ok, Err, IfErr, IsErrAnd, inl, inr, ◌+◌, ◌<◌, ◌≤◌, ℕ, zero, suc, List, [], ◌∷◌, ◌++◌, length, take, get_or, refl, sym, ap, subst, arith}
+use Rattle.std.proofs.Common.{◌≡◌, Result, Ok, Err, IfErr, IsErrAnd, inl, inr, ◌+◌, ◌<◌, ◌≤◌, ℕ, zero, suc, List, [], ◌∷◌, ◌++◌, length, take, get_or, refl, sym, ap, subst, arith}
 use Rattle.std.proofs.lemmas.List.{take_more}
 use Rattle.editor_common.specs.declared.editor_fault.EditorFault.{EditorFault}
-use Rattle.editor_group.specs.Addresses.{AreNamed, IsRefused, Names, NamesNone, OneIsRefused}
+use Rattle.editor_group.specs.Addresses.{AreNamed, IsRefused, Names, OneIsRefused}
 use Rattle.editor_group.specs.declared.address.Address.{Address}
 
 one_more : {X : Type 0} (url_of : X → List ℕ) (xs : List X) (nodes : List Address) (x : X) (node : Address)

@@ -1,5 +1,5 @@
 //! The addresses of nodes.
-ghost use Rattle.std.specs.Prelude.{◌≡◌, ◌≢◌, ◌⊎◌, ◌↔◌, ◌<◌, [], ℕ, List};
+ghost use Rattle.std.specs.Prelude.{◌≡◌, ◌≢◌, ◌↔◌, ◌<◌, []};
 ghost use Rattle.std.specs.Prelude.{is_some, IfOk, IsTrue, MatchOption, string_bytes};
 ghost use Rattle.editor_http.specs.Bars.{barred_by as barred_of};
 ghost use Rattle.editor_group.specs.Addresses.{HasByte, HasNoText, HasText, IsAt, IsBare, Names, NamesNone};

@@ -1,5 +1,5 @@
 //! Which nodes answer, all asked at once.
-ghost use Rattle.std.specs.Prelude.{◌≡◌, length, vec_len, IfErr, IfOk};
+ghost use Rattle.std.specs.Prelude.{◌≡◌, length, vec_len, IfOk};
 
 use crate::address::Address;
 use crate::asking::number_in;

@@ -1,5 +1,5 @@
 //! The same questions to several nodes at once: several silent nodes take no more time than one.
-ghost use Rattle.std.specs.Prelude.{◌≡◌, length, vec_len, IfErr, IfOk};
+ghost use Rattle.std.specs.Prelude.{◌≡◌, length, vec_len, IfOk};
 
 use crate::address::Address;
 use crate::asking::{connect_within, read_answers, write_questions};

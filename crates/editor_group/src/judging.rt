@@ -1,5 +1,5 @@
 //! Whether a ledger is the newest of its editor, as the group says.
-ghost use Rattle.std.specs.Prelude.{◌≡◌, ◌<◌, ◌∷◌, [], length, vec_len, false, IfErr, IfOk, OnOk};
+ghost use Rattle.std.specs.Prelude.{◌≡◌, ◌<◌, length, vec_len, false, IfErr, IfOk, OnOk};
 ghost use Rattle.std.specs.Prelude.{string_bytes};
 ghost use Rattle.editor_plan.specs.Standings.{last_shown as shown_last, last_ticket as ticket_last};
 ghost use Rattle.editor_group.specs.Confirming.{EndsAsking, EndsConfirming, IsConfirmed, LooksSo, Refuses};

@@ -1,5 +1,4 @@
 //! What is printed while commands are on their way. `editor_plan` says when.
-ghost use Rattle.std.specs.Prelude.{IfErr};
 
 use crate::answering::silent_nodes;
 use crate::group::Group;

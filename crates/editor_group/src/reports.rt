@@ -1,5 +1,5 @@
 //! What nodes say of themselves, all asked at once.
-ghost use Rattle.std.specs.Prelude.{◌≡◌, length, vec_len, IfErr, IfOk, None};
+ghost use Rattle.std.specs.Prelude.{◌≡◌, length, vec_len, IfOk, None};
 ghost use Rattle.editor_plan.specs.Standings.{last_shown};
 ghost use Rattle.editor_group.specs.Published.{ticket_of};
 

@@ -1,5 +1,5 @@
 //! What can be asked of a node, as the bytes of a request.
-ghost use Rattle.std.specs.Prelude.{◌≡◌, Bool, true, false, IfOk, string_bytes};
+ghost use Rattle.std.specs.Prelude.{◌≡◌, IfOk, string_bytes};
 ghost use Rattle.editor_http.specs.Requests.{closing, fields_of, receipt_target, page_target, submit_request};
 ghost use Rattle.editor_http.specs.Requests.{get_request, request_with, request_of};
 

@@ -1,5 +1,5 @@
 //! The path of a file's page.
-ghost use Rattle.std.specs.Prelude.{◌≡◌, IfOk, string_bytes};
+ghost use Rattle.std.specs.Prelude.{IfOk, string_bytes};
 ghost use Rattle.editor_import.specs.Routes.{IsRoute};
 
 use std::alloc::{AllocError, Global};

@@ -1,6 +1,6 @@
 -- Tests, searches and filters of mapped lists, and one text more under a number.
-use Rattle.std.proofs.Common.{◌≡◌, ℕ, ◌+◌, List, [], ◌∷◌, ◌++◌, length, map, filter, Bool, true, false, cond, ◌||◌, Option, Some, None, option_map, refl, ap, ◌∙◌, arith}
-use Rattle.std.specs.List.{list_any, find}
+use Rattle.std.proofs.Common.{◌≡◌, ℕ, ◌+◌, List, [], ◌∷◌, ◌++◌, length, map, filter, Bool, true, false, cond, Option, Some, None, option_map, refl, ap, ◌∙◌, arith}
+use Rattle.std.specs.List.{find}
 use Rattle.editor_ledger.specs.Books.{Given}
 use Rattle.editor_ledger.specs.Steps.{numbered}
 

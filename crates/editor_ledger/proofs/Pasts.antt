@@ -1,5 +1,5 @@
 -- What stood at a ticket stays known, whatever is planned and received later.
-use Rattle.std.proofs.Common.{◌≡◌, ℕ, suc, ◌+◌, ◌-◌, ◌<◌, List, [], ◌∷◌, ◌++◌, length, map, filter, Bool, true, false, cond, not, ◌&&◌, nat_lt, eqb, ◌⊎◌, ◌↔◌, codes, inl, inr, Option, Some, None, option_map, IsSome, Contains, refl, sym, ap, subst, ◌∙◌, arith}
+use Rattle.std.proofs.Common.{◌≡◌, ℕ, ◌+◌, ◌-◌, ◌<◌, List, [], ◌∷◌, ◌++◌, length, map, filter, Bool, true, false, cond, not, ◌&&◌, nat_lt, eqb, ◌⊎◌, ◌↔◌, codes, inl, inr, Option, Some, None, option_map, IsSome, Contains, refl, sym, ap, subst, ◌∙◌, arith}
 use Rattle.std.specs.List.{list_any, find, fold, filter_map}
 use Rattle.std.specs.Str.{bytes_eq}
 use Rattle.std.proofs.lemmas.List.Elements.{All-contains_itself, Contains-append_cases, Contains-append_left, Contains-append_right, Contains-push, Contains-push_cases}
@@ -10,9 +10,9 @@ use Rattle.editor_ledger.specs.Histories.{Event, plans, releases, receives, note
 use Rattle.editor_ledger.specs.Laws.{AreApart, PastsStay}
 use Rattle.editor_ledger.specs.Past.{is_among, with_first, olds_since}
 use Rattle.editor_ledger.specs.Plans.{plan_of, before_by, before_text, or_removal, overtaken}
-use Rattle.editor_ledger.specs.Steps.{is_idle, has_unshown, numbered, with_tickets, with_past, with_text, noted, without, received_as}
+use Rattle.editor_ledger.specs.Steps.{is_idle, has_unshown, with_tickets, with_past, with_text, without, received_as}
 use Rattle.editor_ledger.proofs.Members.{here, later, cases, nowhere, filtered, passes, keeps, none_passes, some_passes, tested, given_by, gives}
-use Rattle.editor_ledger.proofs.Subjects.{about, about_one, turned, is_about_it, removal_about, removal_puts_none}
+use Rattle.editor_ledger.proofs.Subjects.{about, about_one, turned, removal_about, removal_puts_none}
 use Rattle.editor_ledger.proofs.Tickets.{found, of_history}
 use Rattle.editor_ledger.proofs.Turning.{ticket_place, text_apart, events_apart}
 

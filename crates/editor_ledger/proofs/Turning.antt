@@ -1,5 +1,5 @@
 -- A plan turns what is put into what is wanted.
-use Rattle.std.proofs.Common.{◌≡◌, ℕ, suc, ◌+◌, List, [], ◌∷◌, length, map, filter, Bool, true, false, cond, not, ◌&&◌, nat_lt, eqb, ◌⊎◌, ◌↔◌, codes, inl, inr, Option, Some, None, IsSome, slice_get, Contains, refl, sym, ap, subst, ◌∙◌, arith}
+use Rattle.std.proofs.Common.{◌≡◌, ℕ, suc, ◌+◌, List, [], ◌∷◌, length, map, filter, Bool, true, false, cond, not, ◌&&◌, eqb, ◌⊎◌, ◌↔◌, codes, inl, inr, Option, Some, None, IsSome, slice_get, Contains, refl, sym, ap, subst, ◌∙◌, arith}
 use Rattle.std.specs.List.{list_any, find}
 use Rattle.std.specs.Str.{bytes_eq}
 use Rattle.std.proofs.lemmas.List.Elements.{All-contains_itself, Contains-append_left, Contains-push, Contains-push_cases}

@@ -1,5 +1,5 @@
 -- Sets of texts, and maps of texts by what they are about.
-use Rattle.std.specs.Prelude.{◌≡◌, ℕ, List, Option, option_map, find}
+use Rattle.std.specs.Prelude.{◌≡◌, ℕ, List, option_map, find}
 use Rattle.std.specs.List.{list_any}
 use Rattle.std.specs.Str.{bytes_eq}
 use Rattle.std.specs.Borrow.{Bor}

@@ -2,7 +2,7 @@
 //!
 //! If no text was about the same as a new one, the new text is added without a look at the others. If at most
 //! one is, the new text replaces it, and the search for it begins where the last one was found.
-ghost use Rattle.std.specs.Prelude.{◌≡◌, ◌≤◌, ℕ, List, ◌∷◌, [], ◌++◌, length, map, filter, not, Some, true};
+ghost use Rattle.std.specs.Prelude.{◌≡◌, ◌≤◌, ℕ, List, ◌∷◌, [], ◌++◌, length, map, filter, not, Some};
 ghost use Rattle.std.specs.Prelude.{false, IfOk, OnOk, OnErr, string_bytes};
 ghost use Rattle.std.specs.BTreeMap.{get_by_text};
 ghost use Rattle.std.specs.Vec.{vec_capacity};

@@ -1,5 +1,5 @@
 -- What an interrupted run left in the log.
-use Rattle.std.specs.Prelude.{ℕ, ◌-◌, length}
+use Rattle.std.specs.Prelude.{◌-◌, length}
 use Rattle.editor_ledger.specs.Books.{Book}
 use Rattle.editor_plan.specs.declared.left_over.LeftOver.{LeftOver}
 

@@ -1,5 +1,5 @@
 //! What an interrupted run left in the log.
-ghost use Rattle.std.specs.Prelude.{◌≡◌, ◌-◌, ◌==◌, ◌&&◌, length};
+ghost use Rattle.std.specs.Prelude.{◌≡◌, ◌-◌, ◌==◌, ◌&&◌};
 ghost use Rattle.editor_plan.specs.Leftovers.{left_by};
 
 use editor_ledger::Ledger;

@@ -1,5 +1,5 @@
 //! What the newest release of a group may show of a folder, and what a publication may change there.
-ghost use Rattle.std.specs.Prelude.{◌≡◌, ◌++◌, map, filter, nat_lt, IfOk, string_bytes};
+ghost use Rattle.std.specs.Prelude.{◌≡◌, map, filter, nat_lt, IfOk, string_bytes};
 ghost use Rattle.editor_ledger.specs.Past.{texts_at};
 ghost use Rattle.editor_plan.specs.States.{stops, with_sent, states_of, touched};
 

@@ -1,6 +1,6 @@
 -- Which paths are taken over, by what a node answers for each of them.
 use Rattle.std.specs.Prelude.{ℕ, ◌+◌, ◌&&◌, not, List, [], ◌∷◌, Bool, false, if◌then◌else◌}
-use Rattle.std.specs.Prelude.{Option, Some, None, string_bytes, slice_get, unwrap_or, Vec}
+use Rattle.std.specs.Prelude.{Option, Some, None, slice_get, unwrap_or, Vec}
 use Rattle.std.specs.List.{list_any}
 use Rattle.std.specs.declared.alloc.Global.{Global}
 use Rattle.editor_folder.specs.declared.views.View.{View}

@@ -2,7 +2,6 @@
 ghost use Rattle.std.specs.Prelude.{◌≡◌, ◌++◌, MatchOption};
 ghost use Rattle.engine_page.specs.Framed.{frame, Fits, HasNoFrame};
 ghost use Rattle.engine_page.specs.Words.{Words, HasWords};
-ghost use Rattle.engine_common.specs.Cuts.{Lacks, IsCut};
 ghost use Rattle.engine_page.specs.View.{line_view, framed_view};
 
 use engine_common::{MAX_TEXT, cut, read_number};

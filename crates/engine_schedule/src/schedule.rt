@@ -3,17 +3,16 @@
 //! A bad line is reported as soon as nothing that follows can mend it. So are an empty file, a last line
 //! without its newline and a submission cut short. The number of a fault counts lines. An index has 64 bits.
 
-ghost use Rattle.std.specs.Prelude.{◌≡◌, ◌≢◌, ℕ, List, ◌∷◌, ◌++◌, ◌<◌, ◌≤◌, ◌^◌, MatchOption, codes, decimal};
+ghost use Rattle.std.specs.Prelude.{◌≡◌, ◌≢◌, ℕ, List, ◌∷◌, ◌++◌, ◌<◌, ◌^◌, MatchOption, codes, decimal};
 ghost use Rattle.std.specs.Prelude.{[], Some, None, false};
 ghost use Rattle.site_ids.specs.Ids.{IsNode, IsInstance};
-ghost use Rattle.engine_common.specs.Cuts.{Lacks, IsCut};
+ghost use Rattle.engine_common.specs.Cuts.{Lacks};
 ghost use Rattle.engine_common.specs.Founds.{IsFound, IsDecided};
-ghost use Rattle.site_ids.specs.declared.Ticket.{Ticket as AbstractTicket};
-ghost use Rattle.engine_schedule.specs.Schedule.{Line as AbstractLine, words, submit_words, Fits, IsPath};
+ghost use Rattle.engine_schedule.specs.Schedule.{Line as AbstractLine, words, Fits, IsPath};
 ghost use Rattle.engine_schedule.specs.Schedule.{body, tick_line, widen_line, ask_line, tell_line, keep_line};
 ghost use Rattle.engine_schedule.specs.Schedule.{restart_line, replace_line, deliver_line, arm_line, spelled};
 ghost use Rattle.engine_schedule.specs.Schedule.{crash_line, quiet_line, show_line, get_line, spelled_nodes};
-ghost use Rattle.engine_common.specs.Submissions.{joined, FitsSubmission};
+ghost use Rattle.engine_common.specs.Submissions.{joined};
 ghost use Rattle.engine_schedule.specs.ScheduleView.{line_view, submission_words};
 ghost use Rattle.engine_common.specs.Submissions.{submission_fits};
 

@@ -3,11 +3,11 @@
 //! A `quiet` that stops is reported as `out of memory`.
 
 ghost use Rattle.std.specs.Prelude.{◌≡◌, ◌⊎◌, ℕ, Option, List, [], ◌∷◌, ◌++◌, ◌<◌, ◌≤◌, ◌+◌, length, IfOk};
-ghost use Rattle.std.specs.Prelude.{OnOk, IfErr, IsErrOf, Ok, Err, string_bytes, codes};
+ghost use Rattle.std.specs.Prelude.{OnOk, IfErr, IsErrOf, Ok, Err, string_bytes};
 ghost use Rattle.http_read.specs.Bytes.{end_of, IsGiven};
 ghost use Rattle.node.specs.Effects.{messages_of};
 ghost use Rattle.engine_schedule.specs.ScheduleView.{line_view};
-ghost use Rattle.engine_schedule.specs.Simulation.{Moment, IsMoment, Takes, TakesPlan, event_of, to_each};
+ghost use Rattle.engine_schedule.specs.Simulation.{IsMoment, Takes, TakesPlan, event_of, to_each};
 ghost use Rattle.engine_schedule.specs.Simulation.{deliveries, state_word, IsShown, got, page_lines, IsPage};
 ghost use Rattle.engine_schedule.specs.Simulation.{IsNoPage};
 ghost use Rattle.release.specs.Standing.{answer_view};

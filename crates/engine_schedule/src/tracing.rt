@@ -1,8 +1,7 @@
 //! What `trace` prints.
-ghost use Rattle.std.specs.Prelude.{◌≡◌, ◌++◌, ◌≤◌, IfOk, codes, decimal, length, slice_get, string_bytes};
+ghost use Rattle.std.specs.Prelude.{◌≡◌, ◌++◌, IfOk, codes, decimal, slice_get, string_bytes};
 ghost use Rattle.std.specs.List.{flat_map};
 ghost use Rattle.site_ids.specs.declared.TheConstants.{TICKET_BYTES};
-ghost use Rattle.command.specs.Reading.{ticket_of};
 ghost use Rattle.node.specs.Effects.{messages_of};
 ghost use Rattle.engine_schedule.specs.Tracing.{ballot_words, value_words, prior_words, kind_word, own_words};
 ghost use Rattle.engine_schedule.specs.Tracing.{message_line, line_or_nothing};

@@ -2,7 +2,7 @@
 //!
 //! All faults of sockets are one fault. A call waits for a second at most, since one thread is both ends.
 
-ghost use Rattle.std.specs.Prelude.{◌≡◌, ℕ, List, drop, IfOk, IfErr, MatchOption};
+ghost use Rattle.std.specs.Prelude.{◌≡◌, IfOk, MatchOption};
 ghost use Rattle.engine_script.specs.Client.{post_request, get_request, IsResponse, HasNoAnswer, IsShown};
 
 use crate::loopback_fault::LoopbackFault;

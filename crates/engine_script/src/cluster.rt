@@ -1,6 +1,6 @@
 //! Three servers that a script drives. The input is the script's lines, the output the answers to its
 //! requests.
-ghost use Rattle.std.specs.Prelude.{◌≡◌, ◌⊎◌, ℕ, List, IfOk, codes};
+ghost use Rattle.std.specs.Prelude.{◌≡◌, ℕ, List, IfOk};
 ghost use Rattle.site_ids.specs.Ids.{IsNode};
 ghost use Rattle.http_read.specs.Bytes.{end_of, IsGiven};
 ghost use Rattle.engine_script.specs.declared.script.TheConstants.{SERVERS};

@@ -1,5 +1,5 @@
 -- What the search for a trailer section finds.
-use Rattle.std.proofs.Common.{◌≡◌, ℕ, ◌<◌, ◌≤◌, List, ◌++◌, length, take, drop, arith, sym, ap, subst, refl, ◌∙◌, append_assoc, length-append, append-nil, [], inl, inr}
+use Rattle.std.proofs.Common.{◌≡◌, ℕ, ◌<◌, ◌≤◌, List, ◌++◌, length, take, drop, arith, sym, ap, subst, refl, ◌∙◌, append_assoc, append-nil, [], inl, inr}
 use Rattle.std.proofs.lemmas.List.{take-append-drop, drop-append-le, length-take, length-map}
 use Rattle.std.proofs.Math.Seq.{drop-append_seam}
 use Rattle.http_read.specs.declared.heads.TheConstants.{HEAD_LIMIT}
@@ -7,7 +7,7 @@ use Rattle.httparse.specs.declared.spans.HeaderSpan.{HeaderSpan}
 use Rattle.httparse.specs.Grammar.{Field, LineEnd, print_section, ReadsSection, HasNoSection, NeverHasSection, MayBecomeSection}
 use Rattle.httparse.specs.Spans.{IsSectionWithin, IsSectionOf, header_bytes, name_and_value}
 use Rattle.httparse.proofs.GrammarLemmas.{ReadsSection-append}
-use Rattle.http_read.specs.Heads.{window, refused, ended, ReadsTrailer}
+use Rattle.http_read.specs.Heads.{window}
 use Rattle.http_read.specs.Sections.{SeesSection}
 use Rattle.http_read.specs.BodySteps.{ShowsTrailer}
 use Rattle.http_read.specs.declared.trailers.TrailerRead.TheVariants as trailer

@@ -1,18 +1,15 @@
 -- An answer stands when more bytes follow.
-use Rattle.std.proofs.Common.{◌≡◌, ◌≢◌, ℕ, ◌+◌, ◌-◌, ◌<◌, ◌≤◌, ◌⊎◌, List, [], ◌∷◌, ◌++◌, length, take, drop, slice_index, if◌then◌else◌, Bool, arith, sym, ap, subst, refl, ◌∙◌, append_assoc, length-append, inl, inr}
+use Rattle.std.proofs.Common.{◌≡◌, ℕ, ◌+◌, ◌-◌, ◌<◌, ◌≤◌, List, ◌++◌, length, take, drop, if◌then◌else◌, Bool, arith, sym, ap, subst, refl, ◌∙◌, append_assoc, length-append, inl, inr}
 use Rattle.std.proofs.lemmas.List.{take-append-le, drop-append-le, get_or_append_left, length-drop}
 use Rattle.std.specs.List.{flat_map}
 use Rattle.http_read.specs.declared.heads.TheConstants.{HEAD_LIMIT}
-use Rattle.http_read.specs.declared.lines.TheConstants.{LINE_LIMIT}
-use Rattle.http_read.specs.declared.lengths.TheConstants.{BODY_LIMIT}
-use Rattle.httparse.specs.Ascii.{crlf_bytes}
-use Rattle.httparse.specs.Grammar.{RequestHead, print_request, ReadsRequest, HasNoRequest, MayBecomeRequest, Field, LineEnd, ChunkLine, print_chunk_line, chunk_size, print_section, ReadsSection, HasNoSection, NeverHasSection, MayBecomeSection}
+use Rattle.httparse.specs.Grammar.{RequestHead, HasNoRequest, MayBecomeRequest, Field, LineEnd, ChunkLine, print_chunk_line, chunk_size, print_section, ReadsSection, HasNoSection, NeverHasSection, MayBecomeSection}
 use Rattle.httparse.proofs.GrammarLemmas.{ReadsRequest-append}
-use Rattle.http_read.specs.Heads.{Reading, got, refused, ended, window, is_long_line, BeginsWithHead, IsUnfinishedHead, ReadsHead, ReadsTrailer}
+use Rattle.http_read.specs.Heads.{got, refused, window, is_long_line, IsUnfinishedHead, ReadsHead, ReadsTrailer}
 use Rattle.http_read.specs.Checks.{Framing, fixed, chunked, pairs_of, framing_of}
-use Rattle.http_read.specs.Bodies.{Chunk, print_chunk, chunks_joined, BeginsWithChunks, BeginsWithLine, HasNoFeed, IsFirstLine, IsNoLine, EndsChunks, ReadsChunks, ReadsBody}
-use Rattle.http_read.specs.Requests.{Asked, Heard, asks, refuses, stops, ends, Follows, Answers}
-use Rattle.http_read.specs.Laws.{with_more, AnswerStands}
+use Rattle.http_read.specs.Bodies.{Chunk, print_chunk, chunks_joined, BeginsWithChunks, BeginsWithLine, IsFirstLine, IsNoLine, EndsChunks, ReadsBody}
+use Rattle.http_read.specs.Requests.{asks, refuses, stops, ends, Follows}
+use Rattle.http_read.specs.Laws.{AnswerStands}
 use Rattle.http_read.proofs.Windows.{take_goes_on, never_in_more}
 
 -- the status of a full window

@@ -1,5 +1,5 @@
 -- What reading on shows of a request.
-use Rattle.std.proofs.Common.{◌≡◌, ℕ, ◌+◌, ◌<◌, ◌≤◌, Bool, true, false, true≢false, List, [], ◌++◌, length, take, drop, arith, sym, ap, subst, refl, ◌∙◌, append_assoc, append-nil, length-append, take-append-drop, inl, inr, Option, Some, None, IfSome, ◌≢◌}
+use Rattle.std.proofs.Common.{◌≡◌, ℕ, ◌+◌, ◌≤◌, Bool, true, false, true≢false, List, [], ◌++◌, length, drop, arith, sym, ap, subst, refl, ◌∙◌, append_assoc, append-nil, length-append, inl, inr, Option, Some, None, IfSome, ◌≢◌}
 use Rattle.std.specs.Io.KnownBytes.{Keeps, Consumes}
 use Rattle.std.proofs.KnownBytes.{Consumes-trans, Consumes-kept}
 use Rattle.std.specs.Option.{option_map}
@@ -8,7 +8,6 @@ use Rattle.httparse.specs.declared.spans.HeaderSpan.{HeaderSpan}
 use Rattle.httparse.specs.declared.spans.RequestSpans.{RequestSpans}
 use Rattle.httparse.specs.Grammar.{RequestHead, print_request}
 use Rattle.httparse.specs.Spans.{IsRequestAt}
-use Rattle.http_read.specs.declared.heads.TheConstants.{HEAD_LIMIT}
 use Rattle.http_read.specs.declared.lengths.TheConstants.{BODY_LIMIT}
 use Rattle.http_read.specs.declared.heads.Found.TheVariants as found
 use Rattle.http_read.specs.declared.judging.Judged.TheVariants as judged
@@ -31,7 +30,7 @@ use Rattle.http_read.specs.Opened.{ShowsHead}
 use Rattle.http_read.specs.Requests.{Heard, Answers, IsCutShort, asks, refuses, stops, ends, is_head}
 use Rattle.http_read.specs.Incoming.{Shows, request_of}
 use Rattle.http_read.specs.Input.{input_of, StopsAt}
-use Rattle.http_read.specs.Progress.{Resumes, asks_of, bytes_left, Advances, KeepsBound, Waits, ShowsOpened}
+use Rattle.http_read.specs.Progress.{Resumes, asks_of, Advances, Waits, ShowsOpened}
 use Rattle.http_read.proofs.Longer.{got_still, stands}
 
 -- ---- heads

@@ -4,7 +4,6 @@ use Rattle.std.proofs.Math.Seq.{drop-append_seam}
 use Rattle.std.proofs.lemmas.List.Concat.{flat_map-append}
 use Rattle.std.proofs.lemmas.List.Elements.{All-push}
 use Rattle.std.specs.List.{flat_map}
-use Rattle.http_read.specs.declared.heads.TheConstants.{HEAD_LIMIT}
 use Rattle.http_read.specs.declared.lengths.TheConstants.{BODY_LIMIT}
 use Rattle.http_read.specs.declared.awaited.Awaited.TheVariants as at
 use Rattle.http_read.specs.declared.body.Body.{Body}
@@ -16,11 +15,11 @@ use Rattle.http_read.specs.declared.chunk_lines.LineRead.TheVariants as line
 use Rattle.http_read.specs.declared.breaks.BreakRead.TheVariants as break
 use Rattle.http_read.specs.declared.trailers.TrailerRead.TheVariants as trailer
 use Rattle.httparse.specs.Ascii.{crlf_bytes}
-use Rattle.httparse.specs.Grammar.{ChunkLine, print_chunk_line, chunk_size}
-use Rattle.http_read.specs.Heads.{Reading, got, refused, ended, ReadsTrailer}
+use Rattle.httparse.specs.Grammar.{print_chunk_line, chunk_size}
+use Rattle.http_read.specs.Heads.{Reading, got, refused, ended}
 use Rattle.http_read.specs.Checks.{Framing, fixed, chunked}
-use Rattle.http_read.specs.Bodies.{Chunk, IsChunk, print_chunk, chunks_joined, BeginsWithChunks, BeginsWithLine, EndsChunks, ReadsChunks, ReadsBody}
-use Rattle.http_read.specs.BodyProgress.{IsAfterChunks, IsWithinChunk, IsAfterLastLine, IsUsedUpTo, IsUsed, left_of, GoesOn, ShowsRead, ShowsStep}
+use Rattle.http_read.specs.Bodies.{Chunk, IsChunk, print_chunk, chunks_joined, BeginsWithChunks, ReadsChunks, ReadsBody}
+use Rattle.http_read.specs.BodyProgress.{IsAfterChunks, IsWithinChunk, IsUsedUpTo, IsUsed, left_of, GoesOn, ShowsRead, ShowsStep}
 use Rattle.http_read.specs.Lines.{ShowsLine}
 use Rattle.http_read.specs.BodySteps.{ShowsBreak, ShowsTrailer}
 use Rattle.http_read.specs.Taken.{TakesHeld}

@@ -1,8 +1,7 @@
 -- How far a request is read of which the first bytes are used already.
-use Rattle.std.specs.Prelude.{◌≡◌, ℕ, ◌+◌, ◌*◌, ◌<◌, ◌≤◌, List, [], ◌++◌, length, Option, Some, None}
+use Rattle.std.specs.Prelude.{◌≡◌, ℕ, ◌+◌, ◌<◌, ◌≤◌, List, [], ◌++◌, length, Option, Some, None}
 use Rattle.httparse.specs.Grammar.{RequestHead}
 use Rattle.http_read.specs.declared.heads.TheConstants.{HEAD_LIMIT}
-use Rattle.http_read.specs.declared.lengths.TheConstants.{BODY_LIMIT}
 use Rattle.http_read.specs.declared.incoming.Request.{Request}
 use Rattle.http_read.specs.declared.judging.Judged.TheVariants.{Asks}
 use Rattle.http_read.specs.declared.opening.Opened.{Opened}
@@ -11,7 +10,7 @@ use Rattle.http_read.specs.declared.progress.Begun.{Begun}
 use Rattle.http_read.specs.declared.progress.Progress.{Progress}
 use Rattle.http_read.specs.declared.awaited.Awaited.{Awaited}
 use Rattle.http_read.specs.declared.progress.Progress.TheVariants.{Head, Body}
-use Rattle.http_read.specs.Heads.{got, ended, ReadsHead}
+use Rattle.http_read.specs.Heads.{got, ReadsHead}
 use Rattle.http_read.specs.Framings.{framing_meant, Judges}
 use Rattle.http_read.specs.BodyProgress.{IsUsed, left_of, chunks_left}
 use Rattle.http_read.specs.Requests.{Answers, refuses, IsCutShort, is_head}

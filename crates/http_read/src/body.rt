@@ -1,5 +1,5 @@
 //! A body that is read in pieces, and copied once.
-ghost use Rattle.std.specs.Prelude.{◌≡◌, ℕ, ◌≤◌, List, [], IfOk, OnErr};
+ghost use Rattle.std.specs.Prelude.{◌≡◌, ◌≤◌, [], IfOk, OnErr};
 ghost use Rattle.http_read.specs.declared.lengths.TheConstants.{BODY_LIMIT};
 ghost use Rattle.http_read.specs.Framings.{framing_meant, stated};
 ghost use Rattle.http_read.specs.BodyProgress.{IsUsed, left_of, chunks_left, GoesOn, ShowsStep, ShowsRead};

@@ -1,5 +1,4 @@
 //! Reads the line break after a chunk (RFC 9112, section 7.1).
-ghost use Rattle.std.specs.Prelude.{◌≡◌, List};
 ghost use Rattle.http_read.specs.BodySteps.{ShowsBreak};
 
 use crate::inbox::Inbox;

@@ -1,5 +1,5 @@
 //! The tests that a head has to pass, in their order.
-ghost use Rattle.std.specs.Prelude.{◌≡◌, ◌≤◌, ◌<◌, ℕ, length, MatchOption, MatchResult, IfOk, codes, false};
+ghost use Rattle.std.specs.Prelude.{◌≡◌, ◌≤◌, ◌<◌, MatchOption, MatchResult, IfOk, codes, false};
 ghost use Rattle.std.specs.Prelude.{None, Some};
 ghost use Rattle.http_read.specs.declared.lengths.TheConstants.{BODY_LIMIT};
 ghost use Rattle.http_read.specs.Checks.{host_fault, coding_fault, length_fault, fault_of, is_known_method};

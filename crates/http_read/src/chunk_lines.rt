@@ -1,5 +1,5 @@
 //! Reads the line before a chunk.
-ghost use Rattle.std.specs.Prelude.{◌≡◌, ℕ, List, length, MatchOption};
+ghost use Rattle.std.specs.Prelude.{◌≡◌, length, MatchOption};
 ghost use Rattle.http_read.specs.Bodies.{IsFirstLine};
 ghost use Rattle.httparse.specs.Grammar.{ChunkLine, IsChunkLine, print_chunk_line};
 ghost use Rattle.http_read.specs.Lines.{ShowsLine, IsLineOf};

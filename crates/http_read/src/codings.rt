@@ -1,5 +1,5 @@
 //! The transfer codings of a request (RFC 9112, section 7).
-ghost use Rattle.std.specs.Prelude.{◌≡◌, ◌<◌, ◌≤◌, ℕ, List, [], ◌∷◌, ◌++◌, length, reverse, MatchOption};
+ghost use Rattle.std.specs.Prelude.{◌≡◌, ◌<◌, ℕ, List, [], ◌∷◌, ◌++◌, length, reverse, MatchOption};
 ghost use Rattle.httparse.specs.Grammar.{trim_ows, skip_ows};
 ghost use Rattle.http_read.specs.Checks.{comma_parts, coding_in, codings_of, is_chunked};
 ghost use Rattle.http_read.specs.Codings.{Tells, codings_in};

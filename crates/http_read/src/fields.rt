@@ -1,5 +1,5 @@
 //! Looks fields up by their names.
-ghost use Rattle.std.specs.Prelude.{◌≡◌, ◌≤◌, ◌^◌, ◌<◌, length, MatchOption, [], ◌∷◌};
+ghost use Rattle.std.specs.Prelude.{◌≡◌, ◌<◌, length};
 ghost use Rattle.http_read.specs.Checks.{values_of, has_field_name};
 ghost use Rattle.http_read.specs.Spans.{covered, LieIn, head_of};
 ghost use Rattle.httparse.specs.Spans.{header_bytes, IsHeaderWithin};

@@ -3,7 +3,7 @@
 //! The first 8,192 bytes are looked at again as they grow. If exactly that many have no head, and then the
 //! input ends, it ended early.
 
-ghost use Rattle.std.specs.Prelude.{◌≡◌, if◌then◌else◌, ℕ, List, ◌≤◌, length, IfOk};
+ghost use Rattle.std.specs.Prelude.{◌≡◌, if◌then◌else◌, ◌≤◌, length, IfOk};
 ghost use Rattle.http_read.specs.declared.heads.TheConstants.{HEAD_LIMIT};
 ghost use Rattle.http_read.specs.Heads.{window, skip_breaks, is_long_line};
 ghost use Rattle.http_read.specs.Looks.{Sees, Finds};

@@ -1,7 +1,7 @@
 //! What a whole head asks for.
-ghost use Rattle.std.specs.Prelude.{◌≡◌, ◌≤◌, ℕ, List, length, take, All, IfOk};
+ghost use Rattle.std.specs.Prelude.{◌≡◌, take, IfOk};
 ghost use Rattle.httparse.specs.Grammar.{RequestHead};
-ghost use Rattle.httparse.specs.Spans.{IsRequestWithin, IsRequestAt, span_bytes};
+ghost use Rattle.httparse.specs.Spans.{IsRequestWithin, IsRequestAt};
 ghost use Rattle.http_read.specs.Framings.{Judges};
 ghost use Rattle.http_read.specs.Requests.{is_head};
 ghost use Rattle.http_read.specs.Spans.{LieIn};

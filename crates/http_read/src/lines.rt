@@ -1,5 +1,5 @@
 //! Finds the end of a chunk line.
-ghost use Rattle.std.specs.Prelude.{◌≡◌, MatchOption};
+ghost use Rattle.std.specs.Prelude.{MatchOption};
 ghost use Rattle.http_read.specs.Bodies.{IsFirstLine, HasNoFeed};
 
 /// The most bytes of a chunk line.

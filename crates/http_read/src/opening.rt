@@ -1,5 +1,5 @@
 //! Reads a head and tests it.
-ghost use Rattle.std.specs.Prelude.{◌≡◌, List, IfOk, OnErr};
+ghost use Rattle.std.specs.Prelude.{◌≡◌, IfOk, OnErr};
 ghost use Rattle.http_read.specs.Opened.{ShowsHead};
 
 use crate::body::Body;

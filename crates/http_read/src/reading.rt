@@ -3,7 +3,7 @@
 //! After a failed read no other read is made. A failed read differs from the input's end only by the count
 //! (`StopsAt`).
 
-ghost use Rattle.std.specs.Prelude.{◌≡◌, ◌≢◌, ◌≤◌, ℕ, List, length, IfOk, IfErr, IfSome, IsErrOf, OnOk};
+ghost use Rattle.std.specs.Prelude.{◌≡◌, ◌≢◌, IfOk, IfErr, IfSome, IsErrOf, OnOk};
 ghost use Rattle.std.specs.Io.KnownBytes.{IsAtEnd, Keeps};
 ghost use Rattle.http_read.specs.Counted.{inside, failed, RoseByOne};
 ghost use Rattle.http_read.specs.Input.{input_of, StopsAt, HasBegun};

@@ -1,5 +1,5 @@
 //! Takes a number of bytes of what is held.
-ghost use Rattle.std.specs.Prelude.{◌≡◌, ℕ, List, [], ◌<◌, IfOk, OnErr};
+ghost use Rattle.std.specs.Prelude.{◌≡◌, [], ◌<◌, IfOk, OnErr};
 ghost use Rattle.http_read.specs.Taken.{TakesHeld};
 
 use crate::inbox::Inbox;

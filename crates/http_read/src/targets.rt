@@ -1,5 +1,5 @@
 //! The path that a request target asks for (RFC 9112, section 3.2).
-ghost use Rattle.std.specs.Prelude.{◌≡◌, ◌≢◌, ◌<◌, ℕ, List, ◌≤◌, length, IfOk, MatchOption, string_bytes};
+ghost use Rattle.std.specs.Prelude.{◌≡◌, ◌≢◌, ◌<◌, ℕ, List, IfOk, MatchOption, string_bytes};
 ghost use Rattle.std.specs.Prelude.{IsTrue, IsUtf8, ◌↔◌, codes};
 ghost use Rattle.percent_encoding.specs.Percent.{percent_decode as decoded_form};
 ghost use Rattle.http_uri.specs.Uri.{Spells};

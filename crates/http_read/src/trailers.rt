@@ -1,5 +1,5 @@
 //! Reads the field lines after the last chunk, the trailer section (RFC 9112, section 7.1.2).
-ghost use Rattle.std.specs.Prelude.{◌≡◌, List, ◌≤◌, length, IfOk, OnErr};
+ghost use Rattle.std.specs.Prelude.{◌≡◌, ◌≤◌, length, IfOk, OnErr};
 ghost use Rattle.http_read.specs.declared.heads.TheConstants.{HEAD_LIMIT};
 ghost use Rattle.http_read.specs.Sections.{SeesSection};
 ghost use Rattle.http_read.specs.BodySteps.{ShowsTrailer};

@@ -3,7 +3,7 @@
 //! If an allocation failed, the connection is over, and an earlier response is whole. A response of status
 //! 400 closes the connection, even if it is a page's.
 
-ghost use Rattle.std.specs.Prelude.{◌≡◌, ◌⊎◌, ◌<◌, ℕ, List, length, true, false, IfOk, OnErr, IsTrue};
+ghost use Rattle.std.specs.Prelude.{◌≡◌, ◌⊎◌, ◌<◌, length, true, false, IfOk, OnErr, IsTrue};
 ghost use Rattle.std.specs.Prelude.{IsFalse, ◌↔◌, MatchOption};
 ghost use Rattle.http_read.specs.Bytes.{end_of};
 ghost use Rattle.http_serve.specs.Fronts.{AsksReceipt, HasAsked};

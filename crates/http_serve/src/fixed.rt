@@ -1,7 +1,7 @@
 //! Responses to submissions that are known in advance. Room for any of them is made first, so that none fails
 //! after a submission that was accepted.
 
-ghost use Rattle.std.specs.Prelude.{◌≡◌, ◌≤◌, ◌++◌, Bool, [], length, vec_capacity, IfOk};
+ghost use Rattle.std.specs.Prelude.{◌≡◌, ◌≤◌, ◌++◌, Bool, [], length, vec_capacity};
 ghost use Rattle.http_serve.specs.declared.fixed.TheConstants.{LONGEST};
 ghost use Rattle.http_serve.specs.Fixed.{fixed_reply};
 ghost use Rattle.http_serve.specs.Replies.{reply_head, head_end};

@@ -1,6 +1,6 @@
 -- Which nodes of the definitions a running node stands for.
 use Rattle.std.specs.Prelude.{◌≡◌, ◌↔◌, ◌⊎◌, ℕ, ◌<◌, ◌≤◌, true, false, if◌then◌else◌, Option, None}
-use Rattle.std.specs.Prelude.{List, ◌++◌, length, Result, Ok, Err, IsErrOf}
+use Rattle.std.specs.Prelude.{List, ◌++◌, length, Result, Ok, Err}
 use Rattle.site_disk.specs.Model.{DiskState, LeavesOnly, after_sync}
 use Rattle.site_ids.specs.Lists.{In}
 use Rattle.wire.specs.declared.message.Message.{Message}

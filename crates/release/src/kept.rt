@@ -1,5 +1,5 @@
 //! The values that were fed, and what is kept beside them.
-ghost use Rattle.std.specs.Prelude.{◌≡◌, ◌+◌, ◌<◌, List, [], ◌∷◌, ◌++◌, length, Some, OnOk, OnErr};
+ghost use Rattle.std.specs.Prelude.{◌≡◌, ◌+◌, ◌<◌, [], ◌∷◌, ◌++◌, length, Some, OnOk, OnErr};
 ghost use Rattle.std.specs.BTreeMap.{Updates};
 ghost use Rattle.site_ids.specs.declared.TheConstants.{MAX_INSTANCE};
 ghost use Rattle.release.specs.Keeping.{ticket_cmp, listed};

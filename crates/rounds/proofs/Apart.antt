@@ -2,7 +2,7 @@
 use Rattle.std.proofs.Common.{◌≡◌, ℕ, zero, suc, ◌+◌, ◌≤◌, Bool, true, false, cond, Option, Some, None, List}
 use Rattle.std.proofs.Common.{refl}
 use Rattle.std.proofs.Common.{sym, ap, subst, ◌∙◌, arith}
-use Rattle.std.specs.Prelude.{◌*◌, ◌-◌, ◌||◌, ◌&&◌, not, nat_eq}
+use Rattle.std.specs.Prelude.{◌*◌, ◌||◌, ◌&&◌, not, nat_eq}
 use Rattle.site_ids.specs.Ids.{IsNode}
 use Rattle.node.specs.declared.to.To.{To}
 use Rattle.site_drive.specs.declared.last_call.LastCall.{LastCall}

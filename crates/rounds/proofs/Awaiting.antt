@@ -1,8 +1,7 @@
 -- An attempt that proposed nothing has too few answers, whatever is called.
-use Rattle.std.proofs.Common.{◌≡◌, ◌⊎◌, ⊎_elim, ℕ, suc, max, ◌+◌, ◌≤◌, Option, Some, None, List, []}
+use Rattle.std.proofs.Common.{◌≡◌, ◌⊎◌, ⊎_elim, ℕ, suc, max, ◌+◌, Option, Some, None, List, []}
 use Rattle.std.proofs.Common.{◌∷◌}
-use Rattle.std.proofs.Common.{◌++◌, sym, ap, subst, ◌∙◌, arith}
-use Rattle.std.specs.Prelude.{⊤}
+use Rattle.std.proofs.Common.{◌++◌, sym, ap, subst, arith}
 use Rattle.site_ids.specs.Ids.{BallotOf, IsNode}
 use Rattle.site_ids.specs.Lists.{In, Distinct, put_at}
 use Rattle.site_ids.specs.Majorities.{Majority}

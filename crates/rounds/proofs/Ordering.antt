@@ -1,6 +1,5 @@
 -- In each schedule the nodes are in their ranges, and what is handed out is messages.
 use Rattle.std.proofs.Common.{◌≡◌, ◌≢◌, ◌⊎◌, ⊎_elim, ℕ, true, Option, Some, None, List, [], ◌∷◌}
-use Rattle.std.proofs.Common.{◌++◌}
 use Rattle.std.proofs.Common.{refl, sym, ap, subst, ◌∙◌, arith}
 use Rattle.site_ids.specs.Ids.{IsNode, IsInstance}
 use Rattle.site_ids.specs.Lists.{In}

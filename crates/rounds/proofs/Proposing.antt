@@ -1,5 +1,5 @@
 -- A proposal that nobody overbids decides in two rounds.
-use Rattle.std.proofs.Common.{◌≡◌, inl, ℕ, ◌≤◌, Some, List, [], ◌++◌, refl, sym, ap, subst, ◌∙◌, arith}
+use Rattle.std.proofs.Common.{◌≡◌, inl, ℕ, Some, List, ◌++◌, refl, sym, ap, subst, ◌∙◌, arith}
 use Rattle.site_ids.specs.Ids.{BallotOf, IsNode}
 use Rattle.site_ids.specs.Lists.{In}
 use Rattle.site_ids.proofs.MajorityLemmas.{all_are_many}

@@ -1,5 +1,5 @@
 -- A proposal that nobody overbids is voted for, whatever else comes.
-use Rattle.std.proofs.Common.{◌≡◌, ◌⊎◌, inl, ⊎_elim, ℕ, max, ◌+◌, ◌<◌, ◌≤◌, Bool, true, false, cond}
+use Rattle.std.proofs.Common.{◌≡◌, ◌⊎◌, inl, ⊎_elim, ℕ, max, ◌+◌, ◌≤◌, Bool, true, false, cond}
 use Rattle.std.proofs.Common.{Option}
 use Rattle.std.proofs.Common.{Some, None, List, [], ◌∷◌, ◌++◌, refl, sym, ap, subst, ◌∙◌, arith}
 use Rattle.std.specs.Prelude.{nat_eq}

@@ -1,7 +1,6 @@
 //! Datagrams between a node and what carries them, in memory.
 
 ghost use Rattle.std.specs.Prelude.{◌≡◌, ◌++◌, ◌∷◌, [], ◌↔◌, ◌⊎◌, ◌≤◌, ℕ, List, length, IsTrue, OnOk, OnErr};
-ghost use Rattle.std.specs.Prelude.{vec_len};
 ghost use Rattle.site_drive.specs.Posting.{bytes_of, letters_of};
 ghost use Rattle.server_packets.specs.Packets.{Holds, framed_all};
 ghost use Rattle.server_packets.specs.declared.TheConstants.{MAX_PACKET};

@@ -4,7 +4,7 @@
 //! own, and a node that is built from the formats only loses what is in it. So a node is sent packets as long
 //! as packets come from it, and each node is sent one once in a while.
 
-ghost use Rattle.std.specs.Prelude.{◌≡◌, ◌-◌, get_or, set, not, Some, None};
+ghost use Rattle.std.specs.Prelude.{◌≡◌, ◌-◌, get_or, set, Some, None};
 ghost use Rattle.server.specs.Speaking.{heard_of, no_peers, reads};
 ghost use Rattle.server_times.specs.Timing.{passed};
 

@@ -1,7 +1,7 @@
 //! What a server reports of its work.
 
-ghost use Rattle.std.specs.Prelude.{◌≡◌, ℕ, List, ◌++◌, IfOk, true, string_bytes, codes};
-ghost use Rattle.http_read.specs.Bytes.{end_of, IsGiven};
+ghost use Rattle.std.specs.Prelude.{◌≡◌, IfOk, true, string_bytes};
+ghost use Rattle.http_read.specs.Bytes.{end_of};
 ghost use Rattle.server_notes.specs.Lines.{line_of_note};
 ghost use Rattle.server.specs.Noted.{HasNoted};
 ghost use Rattle.server.specs.Running.{ReadyEnds, DoneEnds};

@@ -1,11 +1,10 @@
 //! A server without sockets and clock.
 
-ghost use Rattle.std.specs.Prelude.{◌≡◌, ◌↔◌, ◌||◌, [], ℕ, IfOk, IfErr, IfSome, IsFalse, IsSome, OnOk};
+ghost use Rattle.std.specs.Prelude.{◌≡◌, ◌↔◌, ◌||◌, [], IfOk, IfErr, IfSome, IsFalse, IsSome, OnOk};
 ghost use Rattle.std.specs.Prelude.{length, true, false};
-ghost use Rattle.node.specs.Standing.{KeepsOthers, failures};
-ghost use Rattle.site_drive.specs.Batches.{TakesBatch, LeadsSealed};
+ghost use Rattle.node.specs.Standing.{failures};
+ghost use Rattle.site_drive.specs.Batches.{LeadsSealed};
 ghost use Rattle.site_drive.specs.Leading.{StaysWhose};
-ghost use Rattle.site_drive.specs.Posting.{spelled_of};
 ghost use Rattle.site_drive.specs.declared.last_call.LastCall.{LastCall};
 ghost use Rattle.server_clients.specs.Answering.{TellsAnswered};
 ghost use Rattle.server_faults.specs.ServerFaults.{CountsNone};
@@ -16,7 +15,6 @@ ghost use Rattle.server.specs.Returning.{AnswersOrLeaves, ComesBack, IsBack};
 ghost use Rattle.server.specs.Mailing.{waiting_of, posted_of, own_of, has_come};
 ghost use Rattle.server.specs.Speaking.{no_peers};
 ghost use Rattle.server.specs.Passes.{AreSenders, TakesStep, EndsByStep, IsBatchOf, Paces};
-ghost use Rattle.server_clients.specs.Served.{offered};
 ghost use Rattle.server_clients.specs.declared.served.Served.{Served};
 
 use crate::answering::{answer, is_returning};

@@ -2,7 +2,7 @@
 //!
 //! It is a line of its own, so that the line of a fault stays as the formats have it.
 
-ghost use Rattle.std.specs.Prelude.{◌≡◌, ℕ, List, IfOk, codes, string_bytes};
+ghost use Rattle.std.specs.Prelude.{◌≡◌, IfOk, codes, string_bytes};
 ghost use Rattle.http_read.specs.Bytes.{end_of};
 ghost use Rattle.server_faults.specs.Why.{why_line, damaged_line, GivesLine, GivesWhy, SaysWhy, SaysWhyIf};
 

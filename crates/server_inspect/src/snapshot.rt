@@ -75,7 +75,6 @@ impl Snapshot {
 }
 
 impl Disk for Snapshot {
-    ghost use Rattle.std.specs.Prelude.{⊤};
 
     ghost stands_for = { λ s d. ⊥ };
 

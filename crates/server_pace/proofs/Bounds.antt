@@ -1,14 +1,13 @@
 -- Within the budget, in time, and with ever more patience.
-use Rattle.std.proofs.Common.{◌≡◌, ◌⊎◌, inl, inr, ℕ, ◌+◌, ◌-◌, ◌*◌, ◌/◌, ◌^◌, ◌<◌, ◌≤◌, min, max, Bool, true, false, Option, Some, None, refl, sym, ap, subst, ◌∙◌, arith}
+use Rattle.std.proofs.Common.{◌≡◌, ◌⊎◌, inl, inr, ℕ, ◌+◌, ◌-◌, ◌*◌, ◌/◌, ◌^◌, ◌<◌, ◌≤◌, min, max, Bool, true, false, Option, Some, None, refl, arith}
 use Rattle.std.specs.Prelude.{nat_eq, nat_le, nat_lt, ◌||◌, if◌then◌else◌}
 use Rattle.std.proofs.Math.Nat.{mul-le-mul_left}
 use Rattle.std.proofs.lemmas.Bool.Decides.{nat_tests}
-use Rattle.server_pace.specs.Courses.{asked_again, first_course, flight_of, heard_on, is_open, moved_on, stretches_to, told_on}
+use Rattle.server_pace.specs.Courses.{asked_again, first_course, flight_of, moved_on}
 use Rattle.server_pace.specs.Laws.{BeginsWithin, ComesInTime, HasBudgets, HearsWithin, IsAsked, IsWithin, PatienceGrows, TellsWithin}
 use Rattle.server_pace.specs.Turns.{keeping_or, telling_or}
 use Rattle.site_drive.specs.declared.last_call.LastCall.TheVariants.{Ask, Nothing, TickOrAsk, Widen}
 use Rattle.server_pace.specs.declared.course.Course.{Course}
-use Rattle.server_pace.specs.declared.due.Due.{Due}
 use Rattle.server_times.specs.Timing.{passed}
 use Rattle.server_times.specs.declared.times.Times.{Times}
 

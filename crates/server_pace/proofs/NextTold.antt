@@ -1,10 +1,10 @@
 -- What stands of a node is one thing, and so is whether it is told next.
 use Rattle.std.proofs.Common.{◌≡◌, ◌⊎◌, inl, inr, ⊎_elim, ◌↔◌, ℕ, Bool, true, false, Option, Some, None, IfNone, IfSome, ◌≤◌, arith, IsTrue, rules, refl, sym, subst, ◌∙◌}
-use Rattle.std.specs.Prelude.{is_some, nat_le, nat_lt}
+use Rattle.std.specs.Prelude.{is_some}
 use Rattle.std.proofs.lemmas.Bool.Decides.{nat_tests}
 use Rattle.node.specs.Nodes.{Node}
 use Rattle.server_pace.specs.Places.{number_behind, places_behind}
-use Rattle.server_pace.specs.Questioning.{HasNews, Tells, StandsSo, IsDueTo}
+use Rattle.server_pace.specs.Questioning.{Tells, StandsSo, IsDueTo}
 use Rattle.server_pace.specs.declared.asking.Telling.{Telling}
 use Rattle.server_pace.specs.declared.course.Course.{Course}
 use Rattle.server_pace.specs.declared.questions.Questions.{Questions}

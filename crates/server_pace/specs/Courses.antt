@@ -1,5 +1,5 @@
 -- How far a node that asked is told. Times are milliseconds since the server began.
-use Rattle.std.specs.Prelude.{ℕ, ◌+◌, ◌-◌, ◌*◌, ◌/◌, ◌^◌, ◌≤◌, min, max, Bool, true, false, nat_le, nat_lt}
+use Rattle.std.specs.Prelude.{ℕ, ◌+◌, ◌-◌, ◌*◌, ◌/◌, ◌^◌, min, max, Bool, true, false, nat_le, nat_lt}
 use Rattle.std.specs.Prelude.{if◌then◌else◌, Option, Some, None}
 use Rattle.node.specs.declared.TheConstants.{MAX_TOLD}
 use Rattle.server_pace.specs.declared.course.Course.{Course}

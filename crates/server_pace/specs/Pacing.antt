@@ -2,7 +2,7 @@
 -- rests microseconds.
 use Rattle.std.specs.Prelude.{◌≡◌, ◌≢◌, ◌⊎◌, ℕ, suc, ◌+◌, ◌-◌, ◌*◌, ◌/◌, ◌^◌, ◌<◌, ◌≤◌, min, max, List}
 use Rattle.std.specs.Prelude.{length, Bool, true, false, not, ◌||◌, ◌&&◌, nat_eq, nat_lt, Option, Some, None}
-use Rattle.std.specs.Prelude.{unwrap_or, IsSome, IsTrue, ◌↔◌, is_none, is_some, [], if◌then◌else◌}
+use Rattle.std.specs.Prelude.{unwrap_or, IsSome, IsTrue, ◌↔◌, is_none, [], if◌then◌else◌}
 use Rattle.site_ids.specs.Ids.{BallotOf, IsInstance}
 use Rattle.site_ids.specs.NodeSets.{no_nodes, with_node, has_node, count_of, AreUnited}
 use Rattle.site_ids.specs.declared.value.Vote.{Vote}

@@ -1,7 +1,7 @@
 //! When a server tries again, asks and tells, and how long it rests.
 
-ghost use Rattle.std.specs.Prelude.{◌≡◌, ◌↔◌, ◌⊎◌, ◌<◌, ◌||◌, ℕ, suc, Option, IsSome, IsTrue, IfSome, Some};
-ghost use Rattle.std.specs.Prelude.{None, true, false, if◌then◌else◌};
+ghost use Rattle.std.specs.Prelude.{◌≡◌, ◌↔◌, ◌<◌, ◌||◌, Option, IsSome, IsTrue, IfSome, Some};
+ghost use Rattle.std.specs.Prelude.{None, false};
 ghost use Rattle.node.specs.Nodes.{Node as AbstractNode, WantsTick};
 ghost use Rattle.node.specs.Standing.{IsNodeOf};
 ghost use Rattle.server_pace.specs.declared.due.Due.{Due};
@@ -9,7 +9,7 @@ ghost use Rattle.server_pace.specs.declared.seen.Seen.{Seen};
 ghost use Rattle.site_drive.specs.declared.last_call.LastCall.TheVariants.{Ask, TickOrAsk};
 ghost use Rattle.server_pace.specs.Keeping.{keeping_after, owed_at, IsNextBlock};
 ghost use Rattle.server_pace.specs.Pacing.{answers_after, called, empty_after, first_pace, heard, noticed};
-ghost use Rattle.server_pace.specs.Pacing.{pace_after, question_after, resting_of, ticking_after, IsAnswered};
+ghost use Rattle.server_pace.specs.Pacing.{question_after, resting_of, ticking_after, IsAnswered};
 ghost use Rattle.server_pace.specs.Pacing.{CallsDue, HearsBatch, IsDue, IsFresh, IsTelling, IsUntried};
 ghost use Rattle.server_pace.specs.Pacing.{IsYielding, teller_of};
 ghost use Rattle.server_times.specs.Timing.{rest_after};

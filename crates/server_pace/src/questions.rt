@@ -1,11 +1,10 @@
 //! Questions that were heard, and who is told what.
 
-ghost use Rattle.std.specs.Prelude.{◌≡◌, ◌↔◌, ◌≤◌, ◌-◌, ℕ, true, get_or, set, Some, None, IfSome, IfNone};
+ghost use Rattle.std.specs.Prelude.{◌≡◌, ◌↔◌, ◌-◌, Some, None, IfSome, IfNone};
 ghost use Rattle.std.specs.Prelude.{IsTrue, replicate};
 ghost use Rattle.node.specs.Nodes.{Node as AbstractNode};
 ghost use Rattle.node.specs.Standing.{IsNodeOf};
-ghost use Rattle.node.specs.Tellings.{covered_from};
-ghost use Rattle.site_ids.specs.Ids.{IsInstance, IsNode};
+ghost use Rattle.site_ids.specs.Ids.{IsNode};
 ghost use Rattle.site_ids.specs.NodeSets.{AreUnited};
 ghost use Rattle.server_pace.specs.Courses.{course_after};
 ghost use Rattle.server_pace.specs.Places.{number_behind};

@@ -1,6 +1,6 @@
 //! When a server yields to another one that tries.
 
-ghost use Rattle.std.specs.Prelude.{◌≡◌, ◌↔◌, ◌<◌, ◌≤◌, ◌-◌, IsTrue, unwrap_or};
+ghost use Rattle.std.specs.Prelude.{◌≡◌, ◌↔◌, ◌<◌, ◌-◌, IsTrue, unwrap_or};
 ghost use Rattle.server_pace.specs.Pacing.{ended, first_yielding, noted_tries, stood_by, yielding_after};
 ghost use Rattle.server_pace.specs.Pacing.{IsBehind, IsSoon, MayGoOn, Waits, Yields};
 

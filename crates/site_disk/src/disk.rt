@@ -2,7 +2,7 @@
 //!
 //! The trait does not say what a range beyond the end gives; `MemDisk` refuses it.
 
-ghost use Rattle.std.specs.Prelude.{◌≡◌, ◌⊎◌, ◌+◌, ◌≤◌, ◌∷◌, List, ℕ, length, take, drop, IfOk, OnOk, OnErr};
+ghost use Rattle.std.specs.Prelude.{◌≡◌, ◌⊎◌, ◌+◌, ◌≤◌, List, ℕ, length, take, drop, IfOk, OnOk, OnErr};
 ghost use Rattle.std.specs.Prelude.{IsTrue, IsFalse};
 ghost use Rattle.site_disk.specs.Model.{DiskState, after_write, after_sync, overwritten, IsTorn};
 ghost use Rattle.site_disk.specs.Model.{CountsFailure};

@@ -1,7 +1,7 @@
 //! A disk over a real file.
 
 ghost use Rattle.std.specs.Prelude.{◌≡◌, IfErr, IsErr, MatchResult, None, OnOk, Some};
-ghost use Rattle.site_disk.specs.Model.{CountsFailure, DiskState};
+ghost use Rattle.site_disk.specs.Model.{CountsFailure};
 
 use crate::count::counted;
 use crate::{Disk, DiskFailed};

@@ -2,9 +2,9 @@
 //!
 //! `crash` does not allocate, as each write reserved room. The calls that passed are listed.
 
-ghost use Rattle.std.specs.Prelude.{◌≡◌, ◌≢◌, ◌↔◌, ◌⊎◌, ◌+◌, ◌-◌, ◌≤◌, ◌<◌, ◌^◌, ◌∷◌, ◌++◌, [], List, ℕ};
+ghost use Rattle.std.specs.Prelude.{◌≡◌, ◌≢◌, ◌↔◌, ◌+◌, ◌-◌, ◌≤◌, ◌<◌, ◌∷◌, ◌++◌, [], List, ℕ};
 ghost use Rattle.std.specs.Prelude.{length, take, drop, max, None, Some, OnOk, OnErr, IfOk, vec_capacity};
-ghost use Rattle.std.specs.Prelude.{slice_index, IsTrue};
+ghost use Rattle.std.specs.Prelude.{IsTrue};
 ghost use Rattle.site_disk.specs.Memory.{after_one};
 ghost use Rattle.site_disk.specs.Model.{DiskState, after_write, after_sync, overwritten, at_rest, moment};
 ghost use Rattle.site_disk.specs.Model.{MayLeave};

@@ -1,6 +1,6 @@
 //! What a drive delivered, by kind.
 
-ghost use Rattle.std.specs.Prelude.{◌≡◌, ◌-◌, get_or, true, None};
+ghost use Rattle.std.specs.Prelude.{◌≡◌, ◌-◌, true, None};
 ghost use Rattle.site_ids.specs.NodeSets.{with_node};
 ghost use Rattle.site_drive.specs.Delivering.{counted_if, none_noted, noted};
 

@@ -58,7 +58,7 @@ impl MemLink {
 }
 
 impl Link for MemLink {
-    ghost use Rattle.std.specs.Prelude.{◌≡◌, List, ℕ, map, take, true};
+    ghost use Rattle.std.specs.Prelude.{◌≡◌, true};
     ghost use Rattle.site_drive.specs.Memory.{kept_of, received_of};
 
     ghost received = { λ l ds. ds ≡ received_of l };

@@ -1,12 +1,10 @@
 //! Sends what a node hands out.
 
-ghost use Rattle.std.specs.Prelude.{◌≡◌, ◌≤◌, ◌++◌, ◌∷◌, [], ℕ, List, take, map, OnOk, OnErr};
+ghost use Rattle.std.specs.Prelude.{◌≡◌, ◌++◌, ◌∷◌, [], ℕ, List, take, map, OnOk, OnErr};
 ghost use Rattle.site_ids.specs.Lists.{In};
-ghost use Rattle.site_ids.specs.Ids.{IsNode};
 ghost use Rattle.wire.specs.declared.message.Message.{Message};
 ghost use Rattle.wire.specs.Messages.{Fits};
 ghost use Rattle.node.specs.declared.to.To.{To};
-ghost use Rattle.site_drive.specs.Links.{RoseBy};
 ghost use Rattle.site_drive.specs.Drives.{up_to, addressed, sent_of};
 ghost use Rattle.site_drive.specs.Sending.{Counted};
 

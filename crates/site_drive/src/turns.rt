@@ -1,11 +1,8 @@
 //! Turns: what is received is delivered, the node publishes, and what it hands out is sent.
 
-ghost use Rattle.std.specs.Prelude.{◌≡◌, ◌≤◌, ◌++◌, ◌∷◌, [], ℕ, List, length, take, Some, IfOk, IfErr};
+ghost use Rattle.std.specs.Prelude.{◌≡◌, ◌≤◌, ◌++◌, ◌∷◌, [], ℕ, List, length, Some, IfOk, IfErr};
 ghost use Rattle.std.specs.Prelude.{IfSome, OnOk};
-ghost use Rattle.wire.specs.declared.message.Message.{Message};
-ghost use Rattle.node.specs.Nodes.{Node as AbstractNode};
-ghost use Rattle.node.specs.declared.to.To.{To};
-ghost use Rattle.node.specs.Standing.{IsNodeOf, KeepsOthers, CountsDevice, failures};
+ghost use Rattle.node.specs.Standing.{KeepsOthers, CountsDevice, failures};
 ghost use Rattle.site_drive.specs.Delivering.{IsNoted};
 ghost use Rattle.site_drive.specs.Links.{RoseBy};
 ghost use Rattle.site_drive.specs.Sending.{Counted};

@@ -1,6 +1,6 @@
 -- What a server does with its node in a step, as calls of that node: the law on batches has them as events of
 -- the world.
-use Rattle.std.specs.Prelude.{◌≡◌, ℕ, List, ◌++◌}
+use Rattle.std.specs.Prelude.{◌≡◌, ℕ, List}
 use Rattle.site_ids.specs.Ids.{IsNode}
 use Rattle.site_ids.specs.Lists.{In}
 use Rattle.wire.specs.declared.message.Message.{Message}

@@ -1,5 +1,5 @@
 -- Files without a sum.
-use Rattle.std.proofs.Common.{ℕ, List, [], ◌∷◌, ◌++◌, sym, ◌∙◌, ap, subst}
+use Rattle.std.proofs.Common.{ℕ, List, ◌∷◌, ◌++◌, sym, ◌∙◌, ap, subst}
 use Rattle.durable.specs.Entries.{Entry}
 use Rattle.durable.specs.Histories.{IsHistory}
 use Rattle.durable.specs.Items.{puts}

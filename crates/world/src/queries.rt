@@ -20,7 +20,6 @@ use site_ids::{Cluster, NodeId};
 use wire::Message;
 
 impl World {
-    ghost use Rattle.std.specs.Prelude.{ℕ};
     ghost use Rattle.world.specs.Standing.{IsWorldOf};
     ghost use Rattle.world.specs.Steps.{Reached, IsAnswer, AreOfRun};
     ghost use Rattle.world.specs.Telling.{mode_told, fed_at};

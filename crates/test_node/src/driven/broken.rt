@@ -1,5 +1,4 @@
 //! A link whose calls fail.
-ghost use Rattle.std.specs.Prelude.{◌≡◌};
 
 use crate::comparing::same;
 use crate::driven::driven_node::{DrivenNode, passes};

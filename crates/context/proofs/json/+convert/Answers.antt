@@ -1,11 +1,11 @@
-use Rattle.std.proofs.Common.{inl, inr, suc, ◌≡◌, ◌+◌, Some, None, [], ◌∷◌, ◌++◌, take, drop, sym, ap, ◌∙◌, subst, append_assoc, arith, string_bytes, string_cmp, add-one}
+use Rattle.std.proofs.Common.{inl, inr, suc, ◌≡◌, ◌+◌, Some, [], ◌∷◌, ◌++◌, take, drop, sym, ap, ◌∙◌, subst, append_assoc, arith, string_bytes, string_cmp, add-one}
 use Rattle.std.proofs.Math.Seq.{take-suc, drop-cons}
 use Rattle.std.proofs.lemmas.List.{take-append-drop}
 use Rattle.std.proofs.lemmas.Result.{err_from_is_err_and}
 use Rattle.std.specs.List.Sorted.{IsStrictlySortedBy}
 use Rattle.std.specs.Map.{keys_of}
-use Rattle.serde_json.specs.View.{view, items_view as json_items, members_view as json_members}
-use Rattle.context.specs.Whole.{whole, whole_items, whole_members}
+use Rattle.serde_json.specs.View.{items_view as json_items, members_view as json_members}
+use Rattle.context.specs.Whole.{whole_items, whole_members}
 use Rattle.context.specs.View.{data_view, items_view, members_view}
 use Rattle.context.proofs.Copies.{JsonEntry, one_more, one_more_not, member_more, member_more_not, put_last, members_view-insert_entry, items_view-append}
 use Rattle.context.proofs.json.+convert.Goals as goal

@@ -1,4 +1,4 @@
-use Rattle.std.proofs.Common.{ℕ, List, ◌+◌, ◌-◌, ◌==◌, suc, take, drop, reverse, count_by, not, cond, sym, ap, ◌∙◌}
+use Rattle.std.proofs.Common.{◌+◌, ◌-◌, ◌==◌, suc, take, drop, reverse, count_by, not, cond, ap, ◌∙◌}
 use Rattle.std.specs.List.{take_while}
 use Rattle.editor_folder.specs.Places.{is_lead, line_of, column_of}
 use Rattle.editor_folder.proofs.PlaceLemmas.{line_past, column_past, up_to_end}

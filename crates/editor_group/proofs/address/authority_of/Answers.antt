@@ -1,6 +1,6 @@
-use Rattle.std.proofs.Common.{◌≡◌, inl, inr, ◌++◌, List, ℕ, Option, Bor, MatchOption, codes, sym, ◌∙◌, ap, subst}
+use Rattle.std.proofs.Common.{inl, inr, List, ℕ, Option, Bor, MatchOption, sym, ◌∙◌, subst}
 use Rattle.std.proofs.lemmas.Bool.{false≢true}
-use Rattle.editor_group.specs.Addresses.{HasByte, HasNoText, HasText, IsBare}
+use Rattle.editor_group.specs.Addresses.{HasByte, HasNoText, HasText}
 use Rattle.editor_group.proofs.Addresses.{has_text, none_after}
 use Rattle.editor_group.proofs.address.authority_of.Goals as goal
 use Rattle.editor_group.proofs.address.authority_of.Goals.{then-has-via-then-has, then-has-via-else-has+then-has-2}

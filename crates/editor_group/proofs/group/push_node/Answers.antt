@@ -1,4 +1,4 @@
-use Rattle.std.proofs.Common.{Option, MatchOption, inl, inr, subst}
+use Rattle.std.proofs.Common.{Option, MatchOption, subst}
 use Rattle.editor_group.specs.Addresses.{Names, NamesNone}
 use Rattle.editor_group.specs.declared.address.Address.{Address}
 use Rattle.editor_group.proofs.group.push_node.Goals as goal

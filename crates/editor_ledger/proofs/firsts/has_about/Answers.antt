@@ -1,4 +1,4 @@
-use Rattle.std.proofs.Common.{sym, ap, ◌∙◌, rules}
+use Rattle.std.proofs.Common.{sym, ap, ◌∙◌}
 use Rattle.std.specs.Option.{is_some}
 use Rattle.editor_ledger.specs.Heads.{head_of, is_about}
 use Rattle.editor_ledger.specs.View.{head_view}

@@ -1,4 +1,4 @@
-use Rattle.std.proofs.Common.{sym, ◌∙◌, rules}
+use Rattle.std.proofs.Common.{rules}
 use Rattle.editor_ledger.proofs.LookUps.{about_nothing, had_before, comes_first}
 use Rattle.editor_ledger.proofs.firsts.note.Goals as goal
 

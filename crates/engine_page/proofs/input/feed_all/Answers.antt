@@ -1,4 +1,4 @@
-use Rattle.std.proofs.Common.{◌≡◌, ◌⊎◌, ◌+◌, ◌++◌, ◌∷◌, [], ◌∙◌, true, false, sym, ap, arith, inl, inr, length, length-append, refl, rules, codes, string_bytes}
+use Rattle.std.proofs.Common.{◌≡◌, ◌⊎◌, ◌+◌, ◌++◌, ◌∷◌, [], ◌∙◌, true, sym, ap, arith, inl, inr, length, length-append, refl, rules, codes, string_bytes}
 use Rattle.std.proofs.lemmas.List.{length-map}
 use Rattle.command.specs.Written.{line_of}
 use Rattle.engine_page.specs.declared.input.TheConstants.{MAX_COMMANDS}

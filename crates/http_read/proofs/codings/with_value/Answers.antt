@@ -2,7 +2,6 @@ use Rattle.std.proofs.Common.{◌≡◌, ◌∙◌, List, ℕ, [], ◌∷◌, �
 use Rattle.std.specs.List.{flat_map}
 use Rattle.http_read.specs.Checks.{comma_parts, coding_in}
 use Rattle.http_read.specs.Codings.{Tells, codings_in}
-use Rattle.http_read.specs.declared.codings.Codings.{Codings}
 use Rattle.http_read.proofs.codings.with_value.Goals as goal
 
 cut_off : (rest part after : List ℕ) → comma_parts rest ≡ part ∷ comma_parts after → codings_in rest ≡ coding_in part ++ codings_in after

@@ -1,4 +1,4 @@
-use Rattle.std.proofs.Common.{◌∙◌, ap, sym, subst, refl, arith, length, inl}
+use Rattle.std.proofs.Common.{◌∙◌, ap, sym, subst, refl, inl}
 use Rattle.httparse.specs.Spans.{IsRequestAt}
 use Rattle.http_read.specs.declared.heads.Found.TheVariants.{At}
 use Rattle.http_read.specs.declared.progress.Begun.{Begun}

@@ -1,4 +1,4 @@
-use Rattle.std.proofs.Common.{rules, get_or, replicate, false, Some, None, ◌∙◌}
+use Rattle.std.proofs.Common.{rules, get_or, replicate, false, Some, None}
 use Rattle.std.specs.Prelude.{if◌then◌else◌}
 use Rattle.site_ids.proofs.NodeSetLemmas.{set_next}
 use Rattle.server_pace.proofs.present.heard_at.Goals as goal

@@ -1,4 +1,4 @@
-use Rattle.std.proofs.Common.{arith, refl, length}
+use Rattle.std.proofs.Common.{arith, refl}
 use Rattle.http_read.proofs.Stages.{line_last, line_size}
 use Rattle.http_read.proofs.body.Body.read_line.Goals as goal
 

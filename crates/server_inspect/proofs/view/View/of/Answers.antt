@@ -1,4 +1,4 @@
-use Rattle.std.proofs.Common.{◌≡◌, ℕ, List, Bool, false, inl, sym, ◌∙◌, subst, ⊎_elim, slice_index}
+use Rattle.std.proofs.Common.{◌≡◌, ℕ, List, false, inl, sym, ◌∙◌, subst, ⊎_elim, slice_index}
 use Rattle.std.proofs.lemmas.Bool.{false≢true}
 use Rattle.durable.specs.Cutting.{IsCutShort}
 use Rattle.durable.specs.Standing.{IsLaid, IsRefusal, StandsFor}

@@ -1,10 +1,8 @@
-use Rattle.std.proofs.Common.{rules, subst, sym, refl, ap, ◌≡◌, ◌∙◌, ℕ, suc, Bool, true, false, Option, Some, None, IsTrue}
-use Rattle.std.specs.Prelude.{◌||◌, if◌then◌else◌}
-use Rattle.site_drive.specs.declared.last_call.LastCall.{LastCall}
-use Rattle.site_drive.specs.declared.last_call.LastCall.TheVariants.{TickOrAsk}
+use Rattle.std.proofs.Common.{subst, sym, refl, ap, ◌≡◌, ◌∙◌, ℕ, suc, Bool, true, false, Option, Some, None, IsTrue}
+use Rattle.std.specs.Prelude.{◌||◌}
 use Rattle.durable.specs.Entries.{IsPromise}
 use Rattle.node.specs.Nodes.{Node}
-use Rattle.server_pace.specs.Pacing.{called, noticed, pace_after, IsDue, IsFresh, IsTelling, IsTriedBy, IsYielding}
+use Rattle.server_pace.specs.Pacing.{called, noticed, pace_after, IsFresh, IsTelling, IsTriedBy, IsYielding}
 use Rattle.server_pace.specs.Turns.{call_behind, goes_first}
 use Rattle.server_pace.specs.declared.due.Due.{Due}
 use Rattle.server_pace.specs.declared.pace.Pace.{Pace}

@@ -1,4 +1,4 @@
-use Rattle.std.proofs.Common.{rules, inl, inr, refl, subst}
+use Rattle.std.proofs.Common.{inr, subst}
 use Rattle.server_pace.specs.Questioning.{TellsNext}
 use Rattle.server_pace.proofs.pace.Pace.next_telling.Goals as goal
 

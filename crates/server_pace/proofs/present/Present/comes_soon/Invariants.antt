@@ -1,4 +1,4 @@
-use Rattle.std.proofs.Common.{◌≡◌, ◌-◌, ◌<◌, ◌≤◌, ℕ}
+use Rattle.std.proofs.Common.{◌≡◌, ◌-◌, ◌<◌}
 use Rattle.server_pace.specs.Presence.{before}
 use Rattle.server_pace.proofs.present.Present.comes_soon.Given as goal
 

@@ -1,12 +1,8 @@
-use Rattle.std.proofs.Common.{rules, ◌≡◌, ◌<◌, ◌≤◌, ℕ, Option, Some, None, true, false, ⊎_elim, refl, sym, ap, subst, ◌∙◌, arith}
+use Rattle.std.proofs.Common.{rules, ◌≡◌, ◌<◌, ◌≤◌, true, false, ⊎_elim, sym, ap, subst, ◌∙◌, arith}
 use Rattle.site_ids.specs.Ids.{IsNode}
 use Rattle.site_ids.proofs.NodeSetLemmas.{below_next}
-use Rattle.node.specs.Nodes.{Node}
-use Rattle.node.specs.Standing.{IsNodeOf}
 use Rattle.server_pace.specs.Places.{number_behind, places_behind}
-use Rattle.server_pace.specs.Questioning.{IsDueTo, IsFirstDue, IsNextTo}
-use Rattle.server_pace.specs.declared.course.Course.{Course}
-use Rattle.server_pace.specs.declared.questions.Next.{Next}
+use Rattle.server_pace.specs.Questioning.{IsDueTo, IsNextTo}
 use Rattle.server_pace.proofs.NextTold.{some_more, when_none, behind_and_back, place_range, place_of}
 use Rattle.server_pace.proofs.questions.Questions.first_due.Goals as goal
 

@@ -1,4 +1,4 @@
-use Rattle.std.proofs.Common.{◌≡◌, ◌<◌, ◌≤◌, ℕ}
+use Rattle.std.proofs.Common.{◌<◌, ◌≤◌, ℕ}
 use Rattle.site_ids.specs.Ids.{IsNode}
 use Rattle.node.specs.Nodes.{Node}
 use Rattle.node.specs.Standing.{IsNodeOf}

@@ -1,5 +1,4 @@
 use Rattle.std.proofs.Common.{◌≡◌, IfSome, sym, subst}
-use Rattle.site_ids.specs.Ids.{IsNode}
 use Rattle.node.specs.Nodes.{Node}
 use Rattle.node.specs.Standing.{IsNodeOf}
 use Rattle.server_pace.specs.Questioning.{IsDueTo, IsNextTo}

@@ -1,4 +1,4 @@
-use Rattle.std.proofs.Common.{rules, ◌≡◌, ◌-◌, Bool, true, false, Option, Some, None, get_or, refl, sym, ap, subst, ◌∙◌}
+use Rattle.std.proofs.Common.{rules, ◌≡◌, ◌-◌, true, false, Some, None, get_or, refl, sym, ap, subst, ◌∙◌}
 use Rattle.site_ids.specs.Ids.{IsInstance}
 use Rattle.node.specs.Tellings.{covered_from}
 use Rattle.server_pace.specs.Courses.{is_open}
