@@ -31,9 +31,12 @@ counts_memory r before memory = counts_none r before before (no_device r memory)
 pub no_fault : {T : Type 0} (x : T) → ¬ IsErrOf (Ok x) fault.Device
 no_fault x device = absurd (cc)
 
+pub counts_ok : {T : Type 0} (x : T) (before now : ℕ) → now ≡ before → CountsDevice (Ok x) before now
+counts_ok x before now same = counts_none (Ok x) before now (no_fault x) same
+
 -- a put that succeeded
 pub counts_done : {D T : Type 0} (stands_for : D → DiskState → Type 0) (failed : D → ℕ) (old new : Record D) (entry : Entry) (x : T) → Puts stands_for failed old new entry (Ok tt) → CountsDevice (Ok x) (failed old.disk) (failed new.disk)
-counts_done stands_for failed old new entry x puts = counts_none (Ok x) (failed old.disk) (failed new.disk) (no_fault x) (puts.counts.none (λ device. absurd (cc)))
+counts_done stands_for failed old new entry x puts = counts_ok x (failed old.disk) (failed new.disk) (puts.counts.none (λ device. absurd (cc)))
 
 told_device : {T : Type 0} (r : Result T NodeFault) (e : RecordFault) → IsErrAnd r (λ y. y ≡ of_record e) → IsErrOf {T = Unit {0}} (Err e) stored.Device → IsErrOf r fault.Device
 told_device (Ok x) e told below = absurd told

@@ -19,7 +19,7 @@ use Rattle.node.specs.Faults.{of_record}
 use Rattle.node.specs.Nodes.{Node}
 use Rattle.node.specs.Standing.{counted, HasParts, IsNodeOf, IsHandled, KeepsOthers, TakesCall}
 use Rattle.node.proofs.Adding.{none_more}
-use Rattle.node.proofs.DeviceCounts.{counts_kept, counts_done, counts_put, no_device}
+use Rattle.node.proofs.DeviceCounts.{counts_kept, counts_ok, counts_done, counts_put, no_device}
 use Rattle.node.proofs.Stepping.{Handed, Done, KeepsRest, is_up, put_fails, put_record, put_stays, rest_with, same_store, stays_there, wants_memory, whole}
 
 -- the message is counted

@@ -6,7 +6,7 @@ use Rattle.node.specs.Calls.{keep as keeping, IsUnkept, MayKeep}
 use Rattle.node.specs.Effects.{quiet}
 use Rattle.node.proofs.Stepping.{is_up, same_store, stays_there, whole, refused_stopped, wants_memory, put_alone, put_fails}
 use Rattle.node.proofs.KnownValues.{is_none}
-use Rattle.node.proofs.DeviceCounts.{counts_none, counts_memory, counts_done, counts_put}
+use Rattle.node.proofs.DeviceCounts.{counts_none, counts_memory, counts_ok, counts_done, counts_put}
 use Rattle.node.proofs.node.Node.keep.Goals as goal
 
 -- what a look at the record came to
