@@ -1,5 +1,5 @@
 -- A batch after the file of the record has grown.
-use Rattle.std.proofs.Common.{◌≡◌, ◌⊎◌, inl, inr, ⊎_elim, true, Bool, ℕ, List, [], ◌++◌, Result, Ok, Err, IfOk, IfErr, refl, sym, subst, ◌∙◌, append-nil}
+use Rattle.std.proofs.Common.{◌≡◌, ◌⊎◌, inl, inr, ⊎_elim, true, ℕ, List, [], ◌++◌, Result, Ok, Err, IfOk, IfErr, refl, sym, subst, ◌∙◌, append-nil}
 use Rattle.site_disk.specs.Model.{DiskState, LeavesOnly}
 use Rattle.wire.specs.declared.message.Message.{Message}
 use Rattle.durable.specs.Batches.{KeepsNoneOrAll}
@@ -14,7 +14,6 @@ use Rattle.node.specs.Standing.{IsNodeOf, IsOnDisk, IsEither, KeepsOthers, Stays
 use Rattle.site_drive.proofs.Results.{same_err}
 use Rattle.site_drive.proofs.Sealing.{not_begun}
 use Rattle.site_drive.specs.declared.last_call.LastCall.{LastCall}
-use Rattle.site_drive.specs.Leading.{StaysWhose}
 use Rattle.site_drive.specs.Batches.{HasWorked, LeadsSealed, TakesBatch, GivesUpBatch, LosesBatch, IsStop, EndsBatch}
 
 module _ {D : Type 0} (stands_for : D → DiskState → Type 0) where

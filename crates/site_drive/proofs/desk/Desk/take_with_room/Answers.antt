@@ -1,10 +1,8 @@
-use Rattle.std.proofs.Common.{◌≡◌, inl, inr, ⊎_elim, Err, refl, ap, rules}
-use Rattle.node.specs.declared.fault.NodeFault.TheVariants as fault
-use Rattle.node.proofs.Stepping.{is_down}
+use Rattle.std.proofs.Common.{Err, refl, ap, rules}
 use Rattle.site_drive.specs.Posting.{bytes_of}
 use Rattle.site_drive.proofs.Failing.{none_failed, counts_on}
 use Rattle.site_drive.proofs.Growth.{ends_after, not_grown}
-use Rattle.site_drive.proofs.Results.{err_gives, same_err}
+use Rattle.site_drive.proofs.Results.{err_gives}
 use Rattle.site_drive.proofs.Sealing.{of_others}
 use Rattle.site_drive.proofs.desk.Desk.take_with_room.Goals as goal
 
