@@ -1,9 +1,5 @@
 -- Which nodes of the definitions a running node stands for.
-<<<<<<< ours
-use Rattle.std.specs.Prelude.{◌≡◌, ◌↔◌, ◌⊎◌, ℕ, ◌<◌, ◌≤◌, true, false, if◌then◌else◌, Option, None}
-=======
 use Rattle.std.specs.Prelude.{◌≡◌, ◌↔◌, ◌⊎◌, ℕ, ◌<◌, ◌≤◌, ◌^◌, true, false, if◌then◌else◌, Option, None}
->>>>>>> theirs
 use Rattle.std.specs.Prelude.{List, ◌++◌, length, Result, Ok, Err}
 use Rattle.site_disk.specs.Model.{DiskState, LeavesOnly, after_sync}
 use Rattle.site_ids.specs.Lists.{In}

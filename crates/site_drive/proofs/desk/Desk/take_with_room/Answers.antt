@@ -1,5 +1,4 @@
 use Rattle.std.proofs.Common.{Err, refl, ap, rules}
-use Rattle.node.specs.declared.fault.NodeFault.TheVariants as fault
 use Rattle.site_drive.specs.Posting.{bytes_of}
 use Rattle.site_drive.proofs.Failing.{none_failed, counts_on}
 use Rattle.site_drive.proofs.Growth.{ends_after, not_grown}
