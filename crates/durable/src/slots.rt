@@ -105,12 +105,10 @@ impl Slots {
         ensures same { (other : ℕ) → cell_at self.new other ≡ cell_at self.old other }
         ensures room { OnOk result ((at : ℕ) → IsInSpan first count at → IsThere self.new at) }
     {
-        let mut past = 0;
-        while past < count {
-            if let Some(at) = Instance::new(first.number() + past as u32) {
+        for past in 0..count {
+            if let Some(at) = first.plus(past as u32) {
                 self.make_room(at)?;
             }
-            past += 1;
         }
         Ok(())
     }
@@ -121,14 +119,12 @@ impl Slots {
         ensures { IsTrue result ↔ ((at : ℕ) × IsInSpan first count at
             × IsFreeBelow (slot_at self.now at).promised ballot) }
     {
-        let mut past = 0;
-        while past < count {
-            if let Some(at) = Instance::new(first.number() + past as u32) {
+        for past in 0..count {
+            if let Some(at) = first.plus(past as u32) {
                 if self.is_free(at, ballot) {
                     return true;
                 }
             }
-            past += 1;
         }
         false
     }
@@ -165,12 +161,10 @@ impl Slots {
             × (value_at self.new at ≡ value_at self.old at) }
         ensures others { (at : ℕ) → ¬ IsInSpan first count at → cell_at self.new at ≡ cell_at self.old at }
     {
-        let mut past = 0;
-        while past < count {
-            if let Some(at) = Instance::new(first.number() + past as u32) {
+        for past in 0..count {
+            if let Some(at) = first.plus(past as u32) {
                 self.raise(at, ballot);
             }
-            past += 1;
         }
     }
 

@@ -1,6 +1,6 @@
 //! A prepare that is delivered: each instance of its span is judged by itself.
 
-ghost use Rattle.std.specs.Prelude.{◌≡◌, ◌+◌, ◌-◌, ℕ, IfOk, OnOk, OnErr, false};
+ghost use Rattle.std.specs.Prelude.{◌≡◌, ◌-◌, ℕ, IfOk, OnOk, OnErr, false};
 ghost use Rattle.site_ids.specs.Ids.{IsNode};
 ghost use Rattle.site_ids.specs.Spans.{IsSpan, IsInSpan};
 ghost use Rattle.acceptor.specs.Judging.{IsFreeBelow};
@@ -107,13 +107,10 @@ impl<D: Disk> Node<D> {
             rises: false,
             answers: Vec::new(self.alloc),
         };
-        let mut past = 0;
-        while past < count {
-            let Some(at) = Instance::new(first.number() + past as u32) else {
-                return Ok(judgement);
-            };
-            self.judge(at, ballot, &mut judgement)?;
-            past += 1;
+        for past in 0..count {
+            if let Some(at) = first.plus(past as u32) {
+                self.judge(at, ballot, &mut judgement)?;
+            }
         }
         Ok(judgement)
     }

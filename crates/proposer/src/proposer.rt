@@ -131,7 +131,7 @@ impl Proposer {
     {
         let mut past = 0;
         for own in values {
-            let Some(at) = Instance::new(first.number() + past) else {
+            let Some(at) = first.plus(past) else {
                 return;
             };
             self.open(at, ballot, own);
@@ -162,12 +162,10 @@ impl Proposer {
         ensures stays { Changes self.old self.new (λ attempts. attempts) }
         ensures room { OnOk result ((at : ℕ) → IsInSpan first count at → HasRoom self.new at) }
     {
-        let mut past = 0;
-        while past < count {
-            if let Some(at) = Instance::new(first.number() + past as u32) {
+        for past in 0..count {
+            if let Some(at) = first.plus(past as u32) {
                 self.make_room(at)?;
             }
-            past += 1;
         }
         Ok(())
     }

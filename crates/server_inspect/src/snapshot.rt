@@ -75,7 +75,6 @@ impl Snapshot {
 }
 
 impl Disk for Snapshot {
-
     ghost stands_for = { λ s d. ⊥ };
 
     ghost failed = { λ s. ⟦<FileDisk as Disk>⟧.failed s.file };

@@ -22,14 +22,11 @@ fn keep_each<D: Disk>(node: &mut Node<D>, first: Instance, count: u32) -> Result
     ensures others { KeepsOthers node.old node.new }
     ensures counts { CountsDevice result (failures D.failed node.old) (failures D.failed node.new) }
 {
-    let from = first.number();
-    let mut past = 0;
-    while past < count {
-        let Some(instance) = Instance::new(from + past) else {
+    for past in 0..count {
+        let Some(instance) = first.plus(past) else {
             return Ok(());
         };
         node.keep(instance)?;
-        past += 1;
     }
     Ok(())
 }

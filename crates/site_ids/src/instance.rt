@@ -1,6 +1,6 @@
 //! Places of the log.
 
-ghost use Rattle.std.specs.Prelude.{◌≡◌, ◌↔◌, IsTrue, MatchOption};
+ghost use Rattle.std.specs.Prelude.{◌≡◌, ◌↔◌, ◌+◌, IsTrue, MatchOption};
 ghost use Rattle.site_ids.specs.Ids.{IsInstance};
 ghost use Rattle.site_ids.specs.Spans.{IsSpan};
 
@@ -45,6 +45,14 @@ impl Instance {
         ensures range { IsInstance result }
     {
         self.number
+    }
+
+    /// The instance this many after it, if there is one.
+    pub fn plus(self, count: u32) -> Option<Instance>
+        ensures { MatchOption result (¬ IsInstance (self + count))
+            (λ i. (i ≡ self + count) × IsInstance (self + count)) }
+    {
+        Instance::new(self.number.checked_add(count)?)
     }
 
     /// Whether this instance and those after it, `count` in all, are a span.

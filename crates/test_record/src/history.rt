@@ -77,14 +77,12 @@ fn rises(earlier: &[Entry], first: Instance, count: u8, ballot: Ballot) -> bool
     ensures { IsTrue result ↔ ((at : ℕ) × IsInSpan first count at
         × IsAbove (meanings earlier.now) at ballot) }
 {
-    let mut past = 0;
-    while past < count {
-        if let Some(at) = Instance::new(first.number() + past as u32) {
+    for past in 0..count {
+        if let Some(at) = first.plus(past as u32) {
             if is_above(earlier, at, ballot) {
                 return true;
             }
         }
-        past += 1;
     }
     false
 }

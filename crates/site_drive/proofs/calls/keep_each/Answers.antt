@@ -1,8 +1,7 @@
-use Rattle.std.proofs.Common.{◌≡◌, ◌+◌, ℕ, suc, [], inl, inr, refl, sym, ap, subst, ◌∙◌, arith}
+use Rattle.std.proofs.Common.{◌≡◌, ◌+◌, suc, [], inl, inr, refl, sym, subst, ◌∙◌, arith}
 use Rattle.node.specs.Calls.{keep}
 use Rattle.node.specs.Endings.{Whole}
 use Rattle.node.specs.Standing.{IsEvent, ending_by}
-use Rattle.node.proofs.Choosing.{not_there}
 use Rattle.node.proofs.Stepping.{ending_err}
 use Rattle.site_drive.specs.Drives.{KeepAll, KeepsEach}
 use Rattle.site_drive.specs.Leading.{NodeLeads}
@@ -13,8 +12,6 @@ use Rattle.site_drive.proofs.calls.keep_each.Goals as goal
 
 pub loop-past-init : goal.loop-past-init
 loop-past-init g c = record {
-  within = omega arith;
-  near = let range = c.number-from.ensures.range in omega (arith, range.1, c.number-from.ensures.is);
   so_far = none_kept g.D.Disk.stands_for c.args.node.now c.args.node.now.cluster c.args.node.now.me c.args.first;
   others = record { me = refl; cluster = refl; releases = refl };
   counts = refl;
@@ -25,8 +22,7 @@ pub returns-in_default-clause-event : goal.returns-in_default-clause-event
 returns-in_default-clause-event g c =
     let old = c.args.node.now in
     let l = c.loop-past in
-    all_kept g.D.Disk.stands_for old l.node old.cluster old.me c.args.first c.args.count l.past l.invariant.within
-    (inr (not_there c.number-from.result c.args.first l.past c.number-from.ensures.is c.in_default.ensures)) l.invariant.so_far
+    all_kept g.D.Disk.stands_for old l.node old.cluster old.me c.args.first c.args.count l.past (omega arith) (inr c.in_default.ensures) l.invariant.so_far
 
 pub returns-in_err-keep-clause-event : goal.returns-in_err-keep-clause-event
 returns-in_err-keep-clause-event g c =
@@ -34,25 +30,21 @@ returns-in_err-keep-clause-event g c =
     let l = c.loop-past in
     let new = c.keep.new.self in
     let why = c.in_err-keep.field-0.0 in
-    let here : c.in-Some.instance ≡ c.args.first + l.past = c.in-Some.ensures.0 ∙ ap (λ (n : ℕ). n + l.past) c.number-from.ensures.is in
     subst (λ e. NodeLeads g.D.Disk.stands_for old new (λ s next. KeepsEach old.cluster old.me c.args.first c.args.count s e next)) (sym (ending_err c.from_residual.result why c.from_residual.ensures.1))
-    (kept_short g.D.Disk.stands_for old l.node new l.invariant.others c.args.first l.past l.invariant.so_far c.args.count (ending_by why) c.loop-past-test.true (not_whole why)
-    (subst (λ i. IsEvent g.D.Disk.stands_for l.node new (keep i) (ending_by why) [] []) here c.in_err-keep.ensures.event))
+    (kept_short g.D.Disk.stands_for old l.node new l.invariant.others c.args.first l.past l.invariant.so_far c.args.count (ending_by why) (omega arith) (not_whole why)
+    (subst (λ i. IsEvent g.D.Disk.stands_for l.node new (keep i) (ending_by why) [] []) c.in-Some.ensures.0 c.in_err-keep.ensures.event))
 
 pub loop-past-preserved : goal.loop-past-preserved
 loop-past-preserved g c =
     let old = c.args.node.now in
     let l = c.loop-past in
     let new = c.keep.new.self in
-    let here : c.in-Some.instance ≡ c.args.first + l.past = c.in-Some.ensures.0 ∙ ap (λ (n : ℕ). n + l.past) c.number-from.ensures.is in
     let next : suc l.past ≡ l.past + 1 = omega arith in
     record {
-      within = omega (arith, c.loop-past-test.true);
-      near = omega (arith, c.in-Some.ensures.1.1);
       so_far =
           subst (λ k. NodeLeads g.D.Disk.stands_for old new (KeepAll old.cluster old.me c.args.first k)) next
           (kept_more g.D.Disk.stands_for old l.node new l.invariant.others c.args.first l.past l.invariant.so_far
-          (subst (λ i. IsEvent g.D.Disk.stands_for l.node new (keep i) Whole [] []) here c.in_ok-keep.ensures.event));
+          (subst (λ i. IsEvent g.D.Disk.stands_for l.node new (keep i) Whole [] []) c.in-Some.ensures.0 c.in_ok-keep.ensures.event));
       others = others_on old l.node new l.invariant.others c.keep.ensures.others;
       counts = none_failed _ _ _ c.in_ok-keep.ensures.counts ∙ l.invariant.counts;
     }
@@ -61,8 +53,7 @@ pub returns-clause-event : goal.returns-clause-event
 returns-clause-event g c =
     let old = c.args.node.now in
     let l = c.loop-past in
-    all_kept g.D.Disk.stands_for old l.node old.cluster old.me c.args.first c.args.count l.past l.invariant.within
-    (inl (omega (arith, l.invariant.within, c.loop-past-test.false))) l.invariant.so_far
+    all_kept g.D.Disk.stands_for old l.node old.cluster old.me c.args.first c.args.count l.past (omega arith) (inl (omega arith)) l.invariant.so_far
 
 pub returns-in_err-keep-clause-others : goal.returns-in_err-keep-clause-others
 returns-in_err-keep-clause-others g c = others_on c.args.node.now c.loop-past.node c.keep.new.self c.loop-past.invariant.others c.keep.ensures.others

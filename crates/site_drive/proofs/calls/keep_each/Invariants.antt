@@ -1,5 +1,4 @@
-use Rattle.std.proofs.Common.{◌≡◌, ◌+◌, ◌-◌, ◌≤◌}
-use Rattle.site_ids.specs.declared.TheConstants.{MAX_INSTANCE}
+use Rattle.std.proofs.Common.{◌≡◌, ◌-◌}
 use Rattle.node.specs.Standing.{KeepsOthers}
 use Rattle.site_drive.specs.Drives.{KeepAll}
 use Rattle.site_drive.specs.Leading.{NodeLeads}
@@ -8,12 +7,7 @@ use Rattle.site_drive.proofs.calls.keep_each.Given as goal
 -- those of the instances so far are kept
 abbrev pub invariant-loop-past : goal.invariant-loop-past
 invariant-loop-past g l = record {
-  within : l.past ≤ l.count;
-  near : l.from + l.past ≤ MAX_INSTANCE + 1;
   so_far : NodeLeads g.D.Disk.stands_for l.fn.node l.node (KeepAll l.fn.node.cluster l.fn.node.me l.fn.first l.past);
   others : KeepsOthers l.fn.node l.node;
   counts : g.D.Disk.failed l.node.store.disk ≡ g.D.Disk.failed l.fn.node.store.disk;
 }
-
-abbrev pub decreases-loop-past : goal.decreases-loop-past
-decreases-loop-past g l = l.count - l.past

@@ -1,4 +1,4 @@
-use Rattle.std.proofs.Common.{◌≤◌, ◌-◌, ℕ}
+use Rattle.std.proofs.Common.{ℕ}
 use Rattle.site_ids.specs.Spans.{IsInSpan}
 use Rattle.durable.specs.Histories.{IsAbove}
 use Rattle.test_record.specs.Meaning.{meanings}
@@ -6,10 +6,4 @@ use Rattle.test_record.proofs.history.rises.Given as goal
 
 -- at none of so many of them
 abbrev pub invariant-loop-past : goal.invariant-loop-past
-invariant-loop-past l = record {
-  within : l.past ≤ l.count;
-  none : (at : ℕ) → IsInSpan l.first l.past at → ¬ IsAbove (meanings l.earlier) at l.ballot;
-}
-
-abbrev pub decreases-loop-past : goal.decreases-loop-past
-decreases-loop-past l = l.count - l.past
+invariant-loop-past l = (at : ℕ) → IsInSpan l.first l.past at → ¬ IsAbove (meanings l.earlier) at l.ballot

@@ -1,4 +1,4 @@
-use Rattle.std.proofs.Common.{◌≡◌, ◌≤◌, ◌-◌, ℕ}
+use Rattle.std.proofs.Common.{◌≡◌, ℕ}
 use Rattle.site_ids.specs.Spans.{IsInSpan}
 use Rattle.durable.specs.Raising.{IsRaised}
 use Rattle.durable.specs.Slots.{cell_at, slot_at, value_at, IsThere}
@@ -7,11 +7,7 @@ use Rattle.durable.proofs.slots.Slots.promise_span.Given as goal
 -- the first `past` of them are raised, and the others are as they were
 abbrev pub invariant-loop-past : goal.invariant-loop-past
 invariant-loop-past l = record {
-  within : l.past ≤ l.count;
   raised : (at : ℕ) → IsInSpan l.first l.past at → IsRaised (slot_at l.fn.self at) l.ballot (slot_at l.self at) × (value_at l.self at ≡ value_at l.fn.self at);
   others : (at : ℕ) → ¬ IsInSpan l.first l.past at → cell_at l.self at ≡ cell_at l.fn.self at;
   room : (at : ℕ) → IsInSpan l.first l.count at → IsThere l.self at;
 }
-
-abbrev pub decreases-loop-past : goal.decreases-loop-past
-decreases-loop-past l = l.count - l.past

@@ -21,7 +21,6 @@ loop-own-preserved c =
     let counted = l.invariant.counted in
     let longer = ap (λ (xs : List (List ℕ)). length xs) items in
     let next : c.args.first + (l.past + 1) ≡ suc (c.args.first + l.past) = omega arith in
-    let at_is : c.in-Some-new.at ≡ c.args.first + l.past = c.in-Some-new.ensures.0 ∙ ap (λ (n : ℕ). n + l.past) c.number.ensures.is in
     record {
       only = search rules;
       counted = omega (arith, counted, longer);
@@ -30,7 +29,7 @@ loop-own-preserved c =
           let mid = l.invariant.opened attempts are in (
             put_at mid.0 c.in-Some-new.at (Some (opened c.args.ballot c.in-Some.own)),
             c.open.ensures.opened.attempts mid.0 mid.1,
-            (λ i. opened_span (put_at mid.0 (at_is i) (Some (opened c.args.ballot c.in-Some.own))) (next i) c.args.ballot c.next.new.self.rest.items)
+            (λ i. opened_span (put_at mid.0 (c.in-Some-new.ensures.0 i) (Some (opened c.args.ballot c.in-Some.own))) (next i) c.args.ballot c.next.new.self.rest.items)
                 ∙ ap (λ (xs : List (List ℕ)). opened_span mid.0 (c.args.first + l.past) c.args.ballot xs) (sym items) ∙ mid.2,
           );
     }
