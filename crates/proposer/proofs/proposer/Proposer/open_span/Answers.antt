@@ -27,9 +27,9 @@ loop-own-preserved c =
       room = λ at within. c.open.ensures.kept at (l.invariant.room at within);
       opened = λ attempts are.
           let mid = l.invariant.opened attempts are in (
-            put_at mid.0 c.in-Some-new.at (Some (opened c.args.ballot c.in-Some.own)),
+            put_at mid.0 c.in-Some-plus.at (Some (opened c.args.ballot c.in-Some.own)),
             c.open.ensures.opened.attempts mid.0 mid.1,
-            (λ i. opened_span (put_at mid.0 (c.in-Some-new.ensures.0 i) (Some (opened c.args.ballot c.in-Some.own))) (next i) c.args.ballot c.next.new.self.rest.items)
+            (λ i. opened_span (put_at mid.0 (c.in-Some-plus.ensures.0 i) (Some (opened c.args.ballot c.in-Some.own))) (next i) c.args.ballot c.next.new.self.rest.items)
                 ∙ ap (λ (xs : List (List ℕ)). opened_span mid.0 (c.args.first + l.past) c.args.ballot xs) (sym items) ∙ mid.2,
           );
     }
