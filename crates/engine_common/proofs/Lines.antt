@@ -1,14 +1,14 @@
 -- Which bytes have a line at their front, whichever lines there are.
 use Rattle.std.proofs.Common.{◌≡◌, ◌≢◌, ℕ, suc, ◌≤◌, ◌+◌, List, ◌∷◌, ◌++◌, length, refl, sym, ap, ◌∙◌, arith, append_assoc, length-append}
 use Rattle.engine_common.specs.Cuts.{Lacks, IsCut}
+use Rattle.engine_common.specs.Founds.{HasNoLine}
 use Rattle.engine_common.proofs.CutLemmas.{Same, no_cut, one_cut}
 use Rattle.engine_common.proofs.Texts.{behind_text, cut_more, HasText}
 
 -- lines of words without a newline, each with what follows its words' newline
 module _ {Line : Type 0} (Fits : Line → Type 0) (front body : Line → List ℕ) (lacks : (line : Line) → Fits line → Lacks 10 (front line)) where
-  -- no line is at the front of the bytes
-  abbrev pub HasNone : List ℕ → Type 0
-  HasNone bytes = (line : Line) (rest : List ℕ) → Fits line → bytes ≢ (front line ++ (10 ∷ body line)) ++ rest
+  abbrev HasNone : List ℕ → Type 0
+  HasNone = HasNoLine Fits (λ line. front line ++ (10 ∷ body line))
 
   pub head_cut : (line : Line) (rest : List ℕ) → Fits line → IsCut 10 ((front line ++ (10 ∷ body line)) ++ rest) (front line) (body line ++ rest)
   head_cut line rest ok = record { whole = append_assoc (front line) (10 ∷ body line) rest; first = lacks line ok }

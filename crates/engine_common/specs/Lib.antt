@@ -1,4 +1,5 @@
 pub mod Cuts
+pub mod Founds
 pub mod Bodies
 pub mod Submissions
 pub mod Feeds

@@ -4,7 +4,8 @@ use Rattle.std.proofs.lemmas.Fmt.{decimal_injective}
 use Rattle.site_ids.specs.Ids.{IsNode}
 use Rattle.site_ids.specs.declared.Ticket.{Ticket}
 use Rattle.engine_common.specs.Cuts.{Lacks, IsCut}
-use Rattle.engine_schedule.specs.Schedule.{Line, submit_line, tick_line, widen_line, ask_line, tell_line, keep_line, restart_line, replace_line, deliver_line, arm_line, crash_line, settle_line, quiet_line, show_line, get_line, trace_line, submit_words, words, body, spelled, Fits, HasNoLine, GetsNoLine, spelled_nodes, HasNoNodes, GetsNoNodes}
+use Rattle.engine_schedule.specs.Schedule.{Line, submit_line, tick_line, widen_line, ask_line, tell_line, keep_line, restart_line, replace_line, deliver_line, arm_line, crash_line, settle_line, quiet_line, show_line, get_line, trace_line, submit_words, words, body, spelled, Fits, spelled_nodes}
+use Rattle.engine_common.specs.Founds.{HasNoLine, GetsNoLine}
 use Rattle.engine_common.specs.Submissions.{joined, FitsSubmission}
 use Rattle.engine_common.proofs.CutLemmas.{no_cut, one_cut}
 use Rattle.engine_common.proofs.CutLemmas.{lacks-decimal}
@@ -38,7 +39,7 @@ lacks-words trace_line ok = lacks-codes 10 (codes "trace") refl
 
 -- ---- which line is at the front
 
-pub no_line_yet : (bytes : List ℕ) → Lacks 10 bytes → HasNoLine bytes
+pub no_line_yet : (bytes : List ℕ) → Lacks 10 bytes → HasNoLine Fits spelled bytes
 no_line_yet bytes none = lines.no_line_yet Fits (λ line. joined (words line)) body lacks-words bytes none
 
 -- words that are no line's
@@ -66,7 +67,7 @@ of_neither head (show_line p) plain submission ok e = plain (show_line p) ok ref
 of_neither head (get_line p n path) plain submission ok e = plain (get_line p n path) ok refl e
 of_neither head trace_line plain submission ok e = plain trace_line ok refl e
 
-pub bad_head : (bytes head after : List ℕ) → IsCut 10 bytes head after → IsNoLine head → IsNoSubmission head → GetsNoLine bytes
+pub bad_head : (bytes head after : List ℕ) → IsCut 10 bytes head after → IsNoLine head → IsNoSubmission head → GetsNoLine Fits spelled bytes
 bad_head bytes head after cut plain submission = lines.bad_head Fits (λ line. joined (words line)) body lacks-words bytes head after cut (λ line. of_neither head line plain submission)
 
 pub plain_whole : (bytes head after : List ℕ) (line : Line) → IsCut 10 bytes head after → body line ≡ [] → head ≡ joined (words line) → bytes ≡ spelled line ++ after
@@ -98,10 +99,10 @@ text_of p ticket len after (show_line q) rest hp ok is whole = let starts = begi
 text_of p ticket len after (get_line q n path) rest hp ok is whole = let starts = begins_so _ _ is in absurd (omega (arith, starts.0, starts.1))
 text_of p ticket len after trace_line rest hp ok is whole = let starts = begins_so _ _ is in absurd (omega (arith, starts.0, starts.1))
 
-pub short_text : (p : ℕ) (ticket : Ticket) (len : ℕ) (after : List ℕ) → FitsSubmission p ticket len → length after ≤ len → HasNoLine (joined (submit_words p ticket len) ++ (10 ∷ after))
+pub short_text : (p : ℕ) (ticket : Ticket) (len : ℕ) (after : List ℕ) → FitsSubmission p ticket len → length after ≤ len → HasNoLine Fits spelled (joined (submit_words p ticket len) ++ (10 ∷ after))
 short_text p ticket len after hp = lines.short_text Fits (λ line. joined (words line)) body lacks-words (joined (submit_words p ticket len)) (lacks-submission p ticket len hp) len (λ after line rest. text_of p ticket len after line rest hp) after
 
-pub bad_end : (p : ℕ) (ticket : Ticket) (len : ℕ) (after text rest : List ℕ) (e : ℕ) → FitsSubmission p ticket len → length text ≡ len → after ≡ text ++ (e ∷ rest) → e ≢ 10 → GetsNoLine (joined (submit_words p ticket len) ++ (10 ∷ after))
+pub bad_end : (p : ℕ) (ticket : Ticket) (len : ℕ) (after text rest : List ℕ) (e : ℕ) → FitsSubmission p ticket len → length text ≡ len → after ≡ text ++ (e ∷ rest) → e ≢ 10 → GetsNoLine Fits spelled (joined (submit_words p ticket len) ++ (10 ∷ after))
 bad_end p ticket len after text rest e hp = lines.bad_end Fits (λ line. joined (words line)) body lacks-words (joined (submit_words p ticket len)) (lacks-submission p ticket len hp) len (λ after line rest. text_of p ticket len after line rest hp) after text rest e
 
 -- ---- the first line
@@ -109,10 +110,10 @@ bad_end p ticket len after text rest e hp = lines.bad_end Fits (λ line. joined 
 nodes_cut : (n : ℕ) (rest : List ℕ) → IsNode 9 n → IsCut 10 (spelled_nodes n ++ rest) (codes "nodes " ++ decimal n) rest
 nodes_cut n rest ok = record { whole = ap (λ t. codes "nodes " ++ t) (append_assoc (decimal n) (10 ∷ []) rest); first = lacks-behind (codes "nodes ") _ refl (lacks-last n (omega arith)) }
 
-pub no_nodes_yet : (bytes : List ℕ) → Lacks 10 bytes → HasNoNodes bytes
+pub no_nodes_yet : (bytes : List ℕ) → Lacks 10 bytes → HasNoLine (IsNode 9) spelled_nodes bytes
 no_nodes_yet bytes none n rest ok is = no_cut 10 bytes (codes "nodes " ++ decimal n) rest none (rw is (nodes_cut n rest ok))
 
-pub bad_nodes : (bytes head after : List ℕ) → IsCut 10 bytes head after → ((n : ℕ) → IsNode 9 n → head ≢ codes "nodes " ++ decimal n) → GetsNoNodes bytes
+pub bad_nodes : (bytes head after : List ℕ) → IsCut 10 bytes head after → ((n : ℕ) → IsNode 9 n → head ≢ codes "nodes " ++ decimal n) → GetsNoLine (IsNode 9) spelled_nodes bytes
 bad_nodes bytes head after cut none more n rest ok is =
     none n ok (one_cut 10 (bytes ++ more) head (after ++ more) (codes "nodes " ++ decimal n) rest (cut_more bytes head after more cut) (rw is (nodes_cut n rest ok))).front
 

@@ -1,10 +1,9 @@
 -- Steps of the simulator.
-use Rattle.std.proofs.Common.{◌≡◌, ◌≢◌, ◌⊎◌, append-nil, String, Global, string_bytes, ℕ, zero, suc, ◌<◌, ◌≤◌, ◌+◌, List, [], ◌∷◌, ◌++◌, length, Some, None, refl, sym, ap, ◌∙◌, subst, arith, append_assoc, length-append, Option, Result, Ok, Err, inl, inr}
+use Rattle.std.proofs.Common.{◌≡◌, ◌≢◌, ◌⊎◌, append-nil, String, Global, string_bytes, ℕ, zero, suc, ◌<◌, ◌≤◌, ◌+◌, List, [], ◌∷◌, ◌++◌, length, Some, None, refl, sym, ap, ◌∙◌, subst, arith, append_assoc, Option, Result, Ok, Err, inl, inr}
 use Rattle.std.specs.Prelude.{IfOk, OnOk, IfErr, IsErrOf, ⊤}
 use Rattle.std.specs.List.{flat_map}
 use Rattle.std.specs.Io.KnownBytes.{IsAtEnd}
 use Rattle.http_read.specs.Bytes.{End}
-use denote.Bor.{Bor}
 use Rattle.command.specs.Effective.{effective}
 use Rattle.command.specs.Releases.{release_count}
 use Rattle.node.specs.Effects.{messages_of}
@@ -29,18 +28,15 @@ use Rattle.engine_common.specs.declared.ends.InputFault.TheVariants as input
 use Rattle.engine_schedule.specs.declared.simulator.SimFault.{SimFault}
 use Rattle.engine_schedule.specs.declared.simulator.Simulation.{Simulation}
 use Rattle.engine_schedule.specs.declared.simulator.SimFault.TheVariants as sim
-use Rattle.engine_schedule.specs.declared.schedule.Line.{Line as LineCode}
-use Rattle.engine_schedule.specs.declared.schedule.Found.{Found}
-use Rattle.engine_schedule.specs.declared.schedule.Found.TheVariants as found
-use Rattle.engine_schedule.specs.declared.schedule.FoundNodes.{FoundNodes}
-use Rattle.engine_schedule.specs.declared.schedule.FoundNodes.TheVariants as found_nodes
-use Rattle.engine_schedule.specs.ScheduleView.{IsFound, IsFoundNodes, IsDecided, AreDecided}
-use Rattle.engine_schedule.specs.Schedule.{Line, words, body, spelled, Fits, submit_line, tick_line, widen_line, ask_line, tell_line, keep_line, restart_line, replace_line, deliver_line, arm_line, crash_line, settle_line, quiet_line, show_line, get_line, trace_line}
+use Rattle.engine_common.specs.Founds.{HasNoLine, GetsNoLine, IsDecided}
+use Rattle.engine_common.proofs.Founds as founds
+use Rattle.engine_common.proofs.Texts.{lacks-codes}
+use Rattle.engine_schedule.proofs.ScheduleLemmas.{no_line_yet}
+use Rattle.engine_schedule.specs.Schedule.{Line, spelled, Fits, submit_line, tick_line, widen_line, ask_line, tell_line, keep_line, restart_line, replace_line, deliver_line, arm_line, crash_line, settle_line, quiet_line, show_line, get_line, trace_line}
 use Rattle.engine_schedule.specs.Tracing.{message_line}
 use Rattle.engine_schedule.specs.Simulation.{Moment, IsMoment, Takes, to_each, deliveries, event_of, HasRelease, IsPage, IsNoPage, Does, TakesOne, TakesPlan}
-use Rattle.engine_schedule.specs.SimulationEnds.{IsStart, HasBadLine, HasBadNodes}
+use Rattle.engine_schedule.specs.SimulationEnds.{IsStart, HasBadLine}
 use Rattle.engine_common.specs.Feeds.{Grown, ReadEnds}
-use Rattle.engine_common.specs.Submissions.{joined}
 use Rattle.engine_schedule.specs.Stepping.{NextEnds, BeginEnds, HappenEnds, moment_of, sim_fault}
 
 -- a run of one event meets no other
@@ -150,29 +146,13 @@ begin_fault reader old new input.Read r is h = rw is h
 begin_fault reader old new input.OutOfMemory r is h = rw is h
 
 -- with nothing held the input is at its end
-pub at_end : (reader : End) (held : List ℕ) → IsDecided held ⊎ IsAtEnd reader.after → held ≡ [] → IsAtEnd reader.after
-at_end reader held (inl (inl (line, rest, fits, whole))) empty =
-    let long : 0 ≡ (length (joined (words line)) + suc (length (body line))) + length rest =
-    ap length (sym empty ∙ whole) ∙ (length-append (spelled line) rest ∙ ap (λ k. k + length rest) (length-append (joined (words line)) (10 ∷ body line))) in
-    absurd (omega (arith, long))
-at_end reader held (inl (inr never)) empty = absurd (never (spelled settle_line) settle_line [] tt (ap (λ t. t ++ spelled settle_line) empty ∙ sym (append-nil _)))
-at_end reader held (inr ended) empty = ended
+pub at_end : (reader : End) (held : List ℕ) → IsDecided Fits spelled held ⊎ IsAtEnd reader.after → held ≡ [] → IsAtEnd reader.after
+at_end reader held = founds.at_end Fits spelled held settle_line tt (no_line_yet [] (lacks-codes 10 [] refl))
 
 -- with something held that is no line there is a bad line
-pub bad_line : (reader : End) (n : ℕ) (held : List ℕ) (f : Found) → IsDecided held ⊎ IsAtEnd reader.after → IsFound held f → ((line : LineCode) (rest : Bor (List ℕ)) → ¬ (f ≡ found.Line line rest)) → held ≢ [] → HasBadLine reader n held
-bad_line reader n held (found.Line line rest) decided is not some = absurd (not line rest refl)
-bad_line reader n held found.Short (inl (inl (line, rest, fits, whole))) none not some = absurd (none line rest fits whole)
-bad_line reader n held found.Short (inl (inr never)) none not some = inr (inl never)
-bad_line reader n held found.Short (inr ended) none not some = inl (ended, none, some)
-bad_line reader n held found.Bad decided never not some = inr (inl never)
-
--- what is no first line is none at the end, or never one
-pub bad_nodes : (reader : End) (held : List ℕ) (f : FoundNodes) → AreDecided held ⊎ IsAtEnd reader.after → IsFoundNodes held f → ((n : ℕ) (rest : Bor (List ℕ)) → ¬ (f ≡ found_nodes.Nodes n rest)) → HasBadNodes reader held
-bad_nodes reader held (found_nodes.Nodes n rest) decided is not = absurd (not n rest refl)
-bad_nodes reader held found_nodes.Short (inl (inl (n, rest, node, whole))) none not = absurd (none n rest node whole)
-bad_nodes reader held found_nodes.Short (inl (inr never)) none not = inr never
-bad_nodes reader held found_nodes.Short (inr ended) none not = inl (ended, none)
-bad_nodes reader held found_nodes.Bad decided never not = inr never
+pub bad_line : (reader : End) (n : ℕ) (held : List ℕ) → (IsAtEnd reader.after × HasNoLine Fits spelled held) ⊎ GetsNoLine Fits spelled held → held ≢ [] → HasBadLine reader n held
+bad_line reader n held (inl (ended, none)) some = inl (ended, none, some)
+bad_line reader n held (inr never) some = inr (inl never)
 
 -- a fault of the line that was found
 pub line_fault : (reader : End) (before after : Simulation) (old held new : List ℕ) (line : Line) (rest : List ℕ) (e : SimFault) (r : Result (Option (String Global)) SimFault) → r ≡ Err e → Grown reader old held → Fits line

@@ -1,5 +1,5 @@
 -- The lines of a schedule, and how each is spelled.
-use Rattle.std.specs.Prelude.{ℕ, ◌≢◌, ◌<◌, ◌^◌, List, [], ◌∷◌, ◌++◌, length, codes, decimal, ⊤}
+use Rattle.std.specs.Prelude.{ℕ, ◌<◌, ◌^◌, List, [], ◌∷◌, ◌++◌, length, codes, decimal, ⊤}
 use Rattle.std.specs.Str.{IsUtf8}
 use Rattle.site_ids.specs.Ids.{IsNode, IsInstance}
 use Rattle.site_ids.specs.declared.Ticket.{Ticket}
@@ -79,21 +79,7 @@ Fits (show_line p) = IsNode 9 p
 Fits (get_line p n path) = IsNode 9 p × (n < 2 ^ 64) × IsPath path
 Fits trace_line = ⊤
 
--- no line is at the front of the bytes
-abbrev pub HasNoLine : List ℕ → Type 0
-HasNoLine bytes = (line : Line) (rest : List ℕ) → Fits line → bytes ≢ spelled line ++ rest
-
--- no line is at the front, whatever bytes follow
-abbrev pub GetsNoLine : List ℕ → Type 0
-GetsNoLine bytes = (more : List ℕ) → HasNoLine (bytes ++ more)
-
 -- ---- the first line
 
 abbrev pub spelled_nodes : ℕ → List ℕ
 spelled_nodes n = codes "nodes " ++ (decimal n ++ (10 ∷ []))
-
-abbrev pub HasNoNodes : List ℕ → Type 0
-HasNoNodes bytes = (n : ℕ) (rest : List ℕ) → IsNode 9 n → bytes ≢ spelled_nodes n ++ rest
-
-abbrev pub GetsNoNodes : List ℕ → Type 0
-GetsNoNodes bytes = (more : List ℕ) → HasNoNodes (bytes ++ more)

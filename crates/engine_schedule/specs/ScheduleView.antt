@@ -1,18 +1,12 @@
 -- What the code's lines stand for.
-use Rattle.std.specs.Prelude.{ℕ, ◌≡◌, ◌⊎◌, List, ◌++◌}
-use Rattle.site_ids.specs.Ids.{IsNode}
+use Rattle.std.specs.Prelude.{ℕ, List}
 use Rattle.engine_schedule.specs.declared.schedule.Line.{Line as Code}
 use Rattle.engine_schedule.specs.declared.schedule.Line.TheVariants as code
-use Rattle.engine_schedule.specs.declared.schedule.Found.{Found}
-use Rattle.engine_schedule.specs.declared.schedule.Found.TheVariants as found
-use Rattle.engine_schedule.specs.declared.schedule.FoundNodes.{FoundNodes}
-use Rattle.engine_schedule.specs.declared.schedule.FoundNodes.TheVariants as found_nodes
 use Rattle.engine_common.specs.declared.words.SubmissionLine.{SubmissionLine}
 use Rattle.engine_schedule.specs.Schedule.{Line, submit_line, tick_line, widen_line, ask_line, tell_line}
 use Rattle.engine_schedule.specs.Schedule.{keep_line, restart_line, replace_line, deliver_line, arm_line}
 use Rattle.engine_schedule.specs.Schedule.{crash_line, settle_line, quiet_line, show_line, get_line}
-use Rattle.engine_schedule.specs.Schedule.{trace_line, submit_words, Fits, spelled, HasNoLine, GetsNoLine}
-use Rattle.engine_schedule.specs.Schedule.{spelled_nodes, HasNoNodes, GetsNoNodes}
+use Rattle.engine_schedule.specs.Schedule.{trace_line, submit_words}
 
 abbrev pub line_view : Code → Line
 line_view (code.Submit node ticket text) = submit_line node ticket text.now
@@ -34,24 +28,3 @@ line_view code.Trace = trace_line
 
 abbrev pub submission_words : SubmissionLine → List (List ℕ)
 submission_words s = submit_words s.node s.ticket s.text_len
-
--- a line is at the front, or none is yet, or none ever will be
-abbrev pub IsFound : List ℕ → Found → Type 0
-IsFound bytes (found.Line line rest) = Fits (line_view line) × (bytes ≡ spelled (line_view line) ++ rest.now)
-IsFound bytes found.Short = HasNoLine bytes
-IsFound bytes found.Bad = GetsNoLine bytes
-
-abbrev pub IsFoundNodes : List ℕ → FoundNodes → Type 0
-IsFoundNodes bytes (found_nodes.Nodes n rest) = IsNode 9 n × (bytes ≡ spelled_nodes n ++ rest.now)
-IsFoundNodes bytes found_nodes.Short = HasNoNodes bytes
-IsFoundNodes bytes found_nodes.Bad = GetsNoNodes bytes
-
--- a line is at the front, or none ever will be
-abbrev pub IsDecided : List ℕ → Type 0
-IsDecided bytes =
-    ((line : Line) × (rest : List ℕ) × Fits line × (bytes ≡ spelled line ++ rest)) ⊎ GetsNoLine bytes
-
--- the same of a first line
-abbrev pub AreDecided : List ℕ → Type 0
-AreDecided bytes =
-    ((n : ℕ) × (rest : List ℕ) × IsNode 9 n × (bytes ≡ spelled_nodes n ++ rest)) ⊎ GetsNoNodes bytes

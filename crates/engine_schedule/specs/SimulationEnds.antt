@@ -4,10 +4,10 @@ use Rattle.std.specs.List.{flat_map, AllByRecursion}
 use Rattle.std.specs.Io.KnownBytes.{Consumes, IsAtEnd}
 use Rattle.http_read.specs.Bytes.{End, HasFailed, IsRead, IsSilent, IsWritten, IsBroken, IsGiven}
 use Rattle.site_ids.specs.Ids.{IsNode}
-use Rattle.engine_schedule.specs.Schedule.{Line, spelled, Fits, HasNoLine, GetsNoLine, spelled_nodes}
-use Rattle.engine_schedule.specs.Schedule.{HasNoNodes, GetsNoNodes}
+use Rattle.engine_schedule.specs.Schedule.{Line, spelled, Fits, spelled_nodes}
 use Rattle.engine_schedule.specs.Simulation.{Moment, IsMoment, DoesAll, AsksNone, IsBadEvent}
 use Rattle.engine_common.specs.Faults.{fault_at}
+use Rattle.engine_common.specs.Founds.{HasNoLine, GetsNoLine}
 
 -- the nodes, each opened over an empty record
 pub record IsStart (n : ℕ) (m : Moment) : Type 0 where
@@ -42,12 +42,14 @@ pub record Finished (reader out err : End) (status : ℕ) : Type 0 where
 
 -- no first line is in what was read, and none ever will be
 abbrev pub HasBadNodes : End → List ℕ → Type 0
-HasBadNodes reader taken = (IsAtEnd reader.after × HasNoNodes taken) ⊎ GetsNoNodes taken
+HasBadNodes reader taken =
+    (IsAtEnd reader.after × HasNoLine (IsNode 9) spelled_nodes taken)
+    ⊎ GetsNoLine (IsNode 9) spelled_nodes taken
 
 -- no line is there, and none ever will be; or the line names a node that does not exist
 abbrev pub HasBadLine : End → ℕ → List ℕ → Type 0
 HasBadLine reader n rest =
-    (IsAtEnd reader.after × HasNoLine rest × (rest ≢ [])) ⊎ GetsNoLine rest
+    (IsAtEnd reader.after × HasNoLine Fits spelled rest × (rest ≢ [])) ⊎ GetsNoLine Fits spelled rest
     ⊎ ((line : Line) × (more : List ℕ) × Fits line × (rest ≡ spelled line ++ more) × AsksNone n line)
 
 -- the event of the line there can't be taken

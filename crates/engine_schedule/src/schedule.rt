@@ -7,18 +7,18 @@ ghost use Rattle.std.specs.Prelude.{◌≡◌, ◌≢◌, ℕ, List, ◌∷◌, 
 ghost use Rattle.std.specs.Prelude.{[], Some, None, false};
 ghost use Rattle.site_ids.specs.Ids.{IsNode, IsInstance};
 ghost use Rattle.engine_common.specs.Cuts.{Lacks, IsCut};
+ghost use Rattle.engine_common.specs.Founds.{IsFound, IsDecided};
 ghost use Rattle.site_ids.specs.declared.Ticket.{Ticket as AbstractTicket};
 ghost use Rattle.engine_schedule.specs.Schedule.{Line as AbstractLine, words, submit_words, Fits, IsPath};
 ghost use Rattle.engine_schedule.specs.Schedule.{body, tick_line, widen_line, ask_line, tell_line, keep_line};
-ghost use Rattle.engine_schedule.specs.Schedule.{restart_line, replace_line, deliver_line, arm_line};
-ghost use Rattle.engine_schedule.specs.Schedule.{crash_line, quiet_line, show_line, get_line};
+ghost use Rattle.engine_schedule.specs.Schedule.{restart_line, replace_line, deliver_line, arm_line, spelled};
+ghost use Rattle.engine_schedule.specs.Schedule.{crash_line, quiet_line, show_line, get_line, spelled_nodes};
 ghost use Rattle.engine_common.specs.Submissions.{joined, FitsSubmission};
-ghost use Rattle.engine_schedule.specs.ScheduleView.{line_view, submission_words, IsFound, IsFoundNodes};
-ghost use Rattle.engine_schedule.specs.ScheduleView.{IsDecided, AreDecided};
+ghost use Rattle.engine_schedule.specs.ScheduleView.{line_view, submission_words};
 ghost use Rattle.engine_common.specs.Submissions.{submission_fits};
 
 use engine_common::{
-    Body, SubmissionLine, after, body_in, cut, number_at_node, read_node, read_number,
+    Found, SubmissionLine, after, body_in, cut, number_at_node, read_node, read_number,
     submission_after, word_after,
 };
 use site_ids::{Cluster, Instance, NodeId, Ticket};
@@ -81,25 +81,6 @@ pub(crate) enum Line<'a> {
         path: &'a str,
     },
     Trace,
-}
-
-/// What is at the front of the bytes that were read so far.
-#[derive(Clone, Copy)]
-pub(crate) enum Found<'a> {
-    /// A line, and what follows it.
-    Line(Line<'a>, &'a [u8]),
-    /// No line yet.
-    Short,
-    /// No line, whatever follows.
-    Bad,
-}
-
-/// The same for the first line.
-#[derive(Clone, Copy)]
-pub(crate) enum FoundNodes<'a> {
-    Nodes(Cluster, &'a [u8]),
-    Short,
-    Bad,
 }
 
 /// The node of a line of two words.
@@ -246,9 +227,10 @@ fn plain_line(head: &[u8]) -> Option<Line<'_>>
 }
 
 /// The submission, by what follows the newline after its words.
-fn submitted(submission: SubmissionLine, after: &[u8]) -> Found<'_>
+fn submitted(submission: SubmissionLine, after: &[u8]) -> Found<'_, Line<'_>>
     requires { submission_fits submission }
-    ensures { IsFound (joined (submission_words submission) ++ (10 ∷ after.now)) result }
+    ensures { IsFound line_view Fits spelled
+        (joined (submission_words submission) ++ (10 ∷ after.now)) result }
 {
     let SubmissionLine {
         node,
@@ -256,15 +238,15 @@ fn submitted(submission: SubmissionLine, after: &[u8]) -> Found<'_>
         text_len,
     } = submission;
     match body_in(after, text_len) {
-        Body::Text(text, rest) => Found::Line(Line::Submit { node, ticket, text }, rest),
-        Body::Short => Found::Short,
-        Body::Bad => Found::Bad,
+        Found::Line(text, rest) => Found::Line(Line::Submit { node, ticket, text }, rest),
+        Found::Short => Found::Short,
+        Found::Bad => Found::Bad,
     }
 }
 
 /// The line at the front of the bytes.
-pub(crate) fn line_in(bytes: &[u8]) -> Found<'_>
-    ensures { IsFound bytes.now result }
+pub(crate) fn line_in(bytes: &[u8]) -> Found<'_, Line<'_>>
+    ensures { IsFound line_view Fits spelled bytes.now result }
 {
     let Some((head, after)) = cut(bytes, b'\n') else {
         return Found::Short;
@@ -280,7 +262,7 @@ pub(crate) fn line_in(bytes: &[u8]) -> Found<'_>
 
 /// Whether bytes that follow may make a line of these.
 pub(crate) fn is_short(bytes: &[u8]) -> bool
-    ensures { result ≡ false → IsDecided bytes.now }
+    ensures { result ≡ false → IsDecided Fits spelled bytes.now }
 {
     matches!(line_in(bytes), Found::Short)
 }
@@ -294,21 +276,21 @@ fn cluster_in(head: &[u8]) -> Option<Cluster>
 }
 
 /// The first line of a schedule.
-pub(crate) fn nodes_in(bytes: &[u8]) -> FoundNodes<'_>
-    ensures { IsFoundNodes bytes.now result }
+pub(crate) fn nodes_in(bytes: &[u8]) -> Found<'_, Cluster>
+    ensures { IsFound (λ n. n) (IsNode 9) spelled_nodes bytes.now result }
 {
     let Some((head, after)) = cut(bytes, b'\n') else {
-        return FoundNodes::Short;
+        return Found::Short;
     };
     match cluster_in(head) {
-        Some(cluster) => FoundNodes::Nodes(cluster, after),
-        None => FoundNodes::Bad,
+        Some(cluster) => Found::Line(cluster, after),
+        None => Found::Bad,
     }
 }
 
 /// Whether bytes that follow may make a first line of these.
 pub(crate) fn are_short(bytes: &[u8]) -> bool
-    ensures { result ≡ false → AreDecided bytes.now }
+    ensures { result ≡ false → IsDecided (IsNode 9) spelled_nodes bytes.now }
 {
-    matches!(nodes_in(bytes), FoundNodes::Short)
+    matches!(nodes_in(bytes), Found::Short)
 }

@@ -21,10 +21,10 @@ ghost use Rattle.world.specs.Standing.{IsWorldOf};
 ghost use Rattle.world.specs.Taking.{IsBad};
 ghost use Rattle.world.specs.Worlds.{World as AbstractWorld};
 
-use crate::schedule::{Found, FoundNodes, Line, are_short, is_short, line_in, nodes_in};
+use crate::schedule::{Line, are_short, is_short, line_in, nodes_in};
 use crate::tracing::traced;
 use command::write;
-use engine_common::{Feed, InputFault, fill, say, say_at};
+use engine_common::{Feed, Found, InputFault, fill, say, say_at};
 use http_read::{Counted, write_all};
 use release::Answer;
 use site_ids::{Cluster, NodeId, Value};
@@ -372,7 +372,7 @@ fn begin<R: Read>(
 {
     fill(feed, reader, are_short)?;
     let held = feed.held();
-    let FoundNodes::Nodes(cluster, rest) = nodes_in(held) else {
+    let Found::Line(cluster, rest) = nodes_in(held) else {
         return Err(SimFault::BadLine);
     };
     let used = held.len() - rest.len();

@@ -5,9 +5,10 @@ use Rattle.std.proofs.lemmas.List.{append_cancel_left}
 use Rattle.site_ids.specs.Ids.{IsNode}
 use Rattle.site_ids.specs.declared.Ticket.{Ticket}
 use Rattle.engine_common.specs.Cuts.{IsCut, Lacks}
+use Rattle.engine_common.specs.Founds.{HasNoLine, GetsNoLine}
 use Rattle.engine_common.specs.Submissions.{joined}
 use Rattle.engine_script.specs.Laws.{OneScriptLine}
-use Rattle.engine_script.specs.Script.{Line, post_line, get_line, turns_line, drive_line, post_words, words, body, spelled, FitsPost, Fits, HasNoLine, GetsNoLine}
+use Rattle.engine_script.specs.Script.{Line, post_line, get_line, turns_line, drive_line, post_words, words, body, spelled, FitsPost, Fits}
 use Rattle.engine_common.proofs.CutLemmas.{lacks-decimal}
 use Rattle.engine_common.proofs.LineLemmas.{same_submission, number_cut, one_word}
 use Rattle.engine_common.proofs.Lines as lines
@@ -28,7 +29,7 @@ lacks-words (drive_line p k) ok = lacks-behind (codes "drive ") _ refl (lacks-nu
 
 -- ---- which line is at the front
 
-pub no_line_yet : (bytes : List ℕ) → Lacks 10 bytes → HasNoLine bytes
+pub no_line_yet : (bytes : List ℕ) → Lacks 10 bytes → HasNoLine Fits spelled bytes
 no_line_yet bytes none = lines.no_line_yet Fits (λ line. joined (words line)) body lacks-words bytes none
 
 -- words that are no line's
@@ -44,7 +45,7 @@ of_neither head (get_line p target) plain post ok e = plain (get_line p target) 
 of_neither head (turns_line k) plain post ok e = plain (turns_line k) ok refl e
 of_neither head (drive_line p k) plain post ok e = plain (drive_line p k) ok refl e
 
-pub bad_head : (bytes head after : List ℕ) → IsCut 10 bytes head after → IsNoLine head → IsNoPost head → GetsNoLine bytes
+pub bad_head : (bytes head after : List ℕ) → IsCut 10 bytes head after → IsNoLine head → IsNoPost head → GetsNoLine Fits spelled bytes
 bad_head bytes head after cut plain post = lines.bad_head Fits (λ line. joined (words line)) body lacks-words bytes head after cut (λ line. of_neither head line plain post)
 
 -- ---- posts
@@ -75,10 +76,10 @@ text_of p ticket len after (get_line q target) rest hp ok is whole = let starts 
 text_of p ticket len after (turns_line k) rest hp ok is whole = let starts = begins_so _ _ is in absurd (omega (arith, starts.0, starts.1))
 text_of p ticket len after (drive_line q k) rest hp ok is whole = let starts = begins_so _ _ is in absurd (omega (arith, starts.0, starts.1))
 
-pub short_text : (p : ℕ) (ticket : Ticket) (len : ℕ) (after : List ℕ) → FitsPost p ticket len → length after ≤ len → HasNoLine (joined (post_words p ticket len) ++ (10 ∷ after))
+pub short_text : (p : ℕ) (ticket : Ticket) (len : ℕ) (after : List ℕ) → FitsPost p ticket len → length after ≤ len → HasNoLine Fits spelled (joined (post_words p ticket len) ++ (10 ∷ after))
 short_text p ticket len after hp = lines.short_text Fits (λ line. joined (words line)) body lacks-words (joined (post_words p ticket len)) (lacks-post p ticket len hp) len (λ after line rest. text_of p ticket len after line rest hp) after
 
-pub bad_end : (p : ℕ) (ticket : Ticket) (len : ℕ) (after text rest : List ℕ) (e : ℕ) → FitsPost p ticket len → length text ≡ len → after ≡ text ++ (e ∷ rest) → e ≢ 10 → GetsNoLine (joined (post_words p ticket len) ++ (10 ∷ after))
+pub bad_end : (p : ℕ) (ticket : Ticket) (len : ℕ) (after text rest : List ℕ) (e : ℕ) → FitsPost p ticket len → length text ≡ len → after ≡ text ++ (e ∷ rest) → e ≢ 10 → GetsNoLine Fits spelled (joined (post_words p ticket len) ++ (10 ∷ after))
 bad_end p ticket len after text rest e hp = lines.bad_end Fits (λ line. joined (words line)) body lacks-words (joined (post_words p ticket len)) (lacks-post p ticket len hp) len (λ after line rest. text_of p ticket len after line rest hp) after text rest e
 
 -- ---- no two lines spell the same bytes

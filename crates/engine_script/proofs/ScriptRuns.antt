@@ -1,5 +1,5 @@
 -- Whole runs of a script.
-use Rattle.std.proofs.Common.{◌≡◌, ◌≢◌, ◌⊎◌, ℕ, suc, ◌+◌, List, [], ◌∷◌, ◌++◌, length, Option, Some, None, is_some, true≢false, Result, Ok, Err, Vec, Global, codes, refl, sym, ap, ◌∙◌, subst, inl, inr, arith, append_assoc, append-nil, length-append}
+use Rattle.std.proofs.Common.{◌≡◌, ◌≢◌, ◌⊎◌, ℕ, ◌+◌, List, [], ◌∷◌, ◌++◌, length, Option, Some, None, is_some, true≢false, Result, Ok, Err, Vec, Global, codes, refl, sym, ap, ◌∙◌, subst, inl, inr, arith, append_assoc, append-nil, length-append}
 use Rattle.std.specs.List.{flat_map, AllByRecursion}
 use Rattle.std.specs.Io.KnownBytes.{Consumes, Appends, IsAtEnd}
 use Rattle.std.proofs.KnownBytes.{Consumes-trans, Consumes-nil, Appends-trans, Appends-nil}
@@ -14,14 +14,12 @@ use Rattle.engine_script.specs.ScriptEnds.{Prints, PrintsAll, HasDone, HasRun, H
 use Rattle.engine_script.specs.ScriptSteps.{HasStepped, HappenEnds, NextEnds, IsSaid, of_input, of_servers}
 use Rattle.engine_script.specs.declared.loopback_fault.LoopbackFault.{LoopbackFault}
 use Rattle.engine_script.specs.declared.loopback_fault.LoopbackFault.TheVariants as loopback
-use Rattle.engine_script.specs.declared.script.Line.{Line as LineCode}
-use Rattle.engine_script.specs.declared.script.Found.{Found}
-use Rattle.engine_script.specs.declared.script.Found.TheVariants as found
-use Rattle.engine_script.specs.ScriptView.{IsFound, IsDecided}
-use Rattle.engine_script.specs.Script.{Line, turns_line, words, body, spelled, Fits}
-use denote.Bor.{Bor}
+use Rattle.engine_common.specs.Founds.{HasNoLine, GetsNoLine, IsDecided}
+use Rattle.engine_common.proofs.Founds as founds
+use Rattle.engine_common.proofs.Texts.{lacks-codes}
+use Rattle.engine_script.proofs.ScriptLemmas.{no_line_yet}
+use Rattle.engine_script.specs.Script.{Line, turns_line, spelled, Fits}
 use Rattle.engine_common.specs.Feeds.{Grown, ReadEnds}
-use Rattle.engine_common.specs.Submissions.{joined}
 
 -- ---- one line more
 
@@ -185,21 +183,13 @@ read_fault reader old new input.Read r is h = rw is h
 read_fault reader old new input.OutOfMemory r is h = rw is h
 
 -- with nothing held the input is at its end
-pub at_end : (reader : End) (held : List ℕ) → IsDecided held ⊎ IsAtEnd reader.after → held ≡ [] → IsAtEnd reader.after
-at_end reader held (inl (inl (line, rest, fits, whole))) empty =
-    let long : 0 ≡ (length (joined (words line)) + suc (length (body line))) + length rest =
-    ap length (sym empty ∙ whole) ∙ (length-append (spelled line) rest ∙ ap (λ k. k + length rest) (length-append (joined (words line)) (10 ∷ body line))) in
-    absurd (omega (arith, long))
-at_end reader held (inl (inr never)) empty = absurd (never (spelled (turns_line 0)) (turns_line 0) [] (omega arith) (ap (λ t. t ++ spelled (turns_line 0)) empty ∙ sym (append-nil _)))
-at_end reader held (inr ended) empty = ended
+pub at_end : (reader : End) (held : List ℕ) → IsDecided Fits spelled held ⊎ IsAtEnd reader.after → held ≡ [] → IsAtEnd reader.after
+at_end reader held = founds.at_end Fits spelled held (turns_line 0) (omega arith) (no_line_yet [] (lacks-codes 10 [] refl))
 
 -- with something held that is no line there is a bad line
-pub bad_line : (reader : End) (held : List ℕ) (f : Found) → IsDecided held ⊎ IsAtEnd reader.after → IsFound held f → ((line : LineCode) (rest : Bor (List ℕ)) → ¬ (f ≡ found.Line line rest)) → held ≢ [] → HasBadLine reader held
-bad_line reader held (found.Line line rest) decided is not some = absurd (not line rest refl)
-bad_line reader held found.Short (inl (inl (line, rest, fits, whole))) none not some = absurd (none line rest fits whole)
-bad_line reader held found.Short (inl (inr never)) none not some = inr never
-bad_line reader held found.Short (inr ended) none not some = inl (ended, none, some)
-bad_line reader held found.Bad decided never not some = inr never
+pub bad_line : (reader : End) (held : List ℕ) → (IsAtEnd reader.after × HasNoLine Fits spelled held) ⊎ GetsNoLine Fits spelled held → held ≢ [] → HasBadLine reader held
+bad_line reader held (inl (ended, none)) some = inl (ended, none, some)
+bad_line reader held (inr never) some = inr never
 
 -- a fault of the line that was found
 pub line_fault : (reader : End) (old held new : List ℕ) (line : Line) (rest : List ℕ) (e : LoopbackFault) (r : Result (Option (Vec ℕ Global)) ScriptFault) → r ≡ Err (of_servers e) → Grown reader old held → Fits line

@@ -1,5 +1,5 @@
 -- The lines of a script, and how each is spelled.
-use Rattle.std.specs.Prelude.{ℕ, ◌≢◌, ◌≤◌, ◌<◌, ◌^◌, List, [], ◌∷◌, ◌++◌, length, codes, decimal}
+use Rattle.std.specs.Prelude.{ℕ, ◌≤◌, ◌<◌, ◌^◌, List, [], ◌∷◌, ◌++◌, length, codes, decimal}
 use Rattle.site_ids.specs.Ids.{IsNode}
 use Rattle.site_ids.specs.declared.Ticket.{Ticket}
 use Rattle.engine_script.specs.declared.script.TheConstants.{SERVERS, MAX_POST, MAX_TURNS}
@@ -45,11 +45,3 @@ Fits (post_line p ticket text) = FitsPost p ticket (length text)
 Fits (get_line p target) = IsNode SERVERS p × IsTarget target
 Fits (turns_line k) = k ≤ MAX_TURNS
 Fits (drive_line p k) = IsNode SERVERS p × (k ≤ MAX_TURNS)
-
--- no line is at the front of the bytes
-abbrev pub HasNoLine : List ℕ → Type 0
-HasNoLine bytes = (line : Line) (rest : List ℕ) → Fits line → bytes ≢ spelled line ++ rest
-
--- no line is at the front, whatever bytes follow
-abbrev pub GetsNoLine : List ℕ → Type 0
-GetsNoLine bytes = (more : List ℕ) → HasNoLine (bytes ++ more)

@@ -5,8 +5,8 @@ use Rattle.std.specs.Io.KnownBytes.{Consumes, IsAtEnd}
 use Rattle.http_read.specs.Bytes.{End, HasFailed, IsRead, IsSilent, IsWritten, IsBroken, IsGiven}
 use Rattle.engine_script.specs.Client.{IsShown}
 use Rattle.engine_script.specs.Script.{Line, post_line, get_line, turns_line, drive_line, spelled, Fits}
-use Rattle.engine_script.specs.Script.{HasNoLine, GetsNoLine}
 use Rattle.engine_common.specs.Faults.{fault_at}
+use Rattle.engine_common.specs.Founds.{HasNoLine, GetsNoLine}
 
 -- a line of a request
 abbrev pub IsRequest : Line → Type 0
@@ -50,7 +50,8 @@ pub record Finished (reader out err : End) (status : ℕ) : Type 0 where
 
 -- no line is there, and none ever will be
 abbrev pub HasBadLine : End → List ℕ → Type 0
-HasBadLine reader rest = (IsAtEnd reader.after × HasNoLine rest × (rest ≢ [])) ⊎ GetsNoLine rest
+HasBadLine reader rest =
+    (IsAtEnd reader.after × HasNoLine Fits spelled rest × (rest ≢ [])) ⊎ GetsNoLine Fits spelled rest
 
 -- a request's line is there
 abbrev pub HasRequest : List ℕ → Type 0

@@ -1,12 +1,10 @@
 -- What the code's lines of a script stand for.
-use Rattle.std.specs.Prelude.{ℕ, ◌≡◌, ◌⊎◌, List, ◌++◌}
+use Rattle.std.specs.Prelude.{ℕ, List}
 use Rattle.engine_script.specs.declared.script.Line.{Line as Code}
 use Rattle.engine_script.specs.declared.script.Line.TheVariants as code
-use Rattle.engine_script.specs.declared.script.Found.{Found}
-use Rattle.engine_script.specs.declared.script.Found.TheVariants as found
 use Rattle.engine_common.specs.declared.words.SubmissionLine.{SubmissionLine}
 use Rattle.engine_script.specs.Script.{Line, post_line, get_line, turns_line, drive_line, post_words}
-use Rattle.engine_script.specs.Script.{FitsPost, Fits, spelled, HasNoLine, GetsNoLine}
+use Rattle.engine_script.specs.Script.{FitsPost}
 
 abbrev pub line_view : Code → Line
 line_view (code.Post node ticket text) = post_line node ticket text.now
@@ -19,14 +17,3 @@ posted_words s = post_words s.node s.ticket s.text_len
 
 abbrev pub post_fits : SubmissionLine → Type 0
 post_fits s = FitsPost s.node s.ticket s.text_len
-
--- a line is at the front, or none is yet, or none ever will be
-abbrev pub IsFound : List ℕ → Found → Type 0
-IsFound bytes (found.Line line rest) = Fits (line_view line) × (bytes ≡ spelled (line_view line) ++ rest.now)
-IsFound bytes found.Short = HasNoLine bytes
-IsFound bytes found.Bad = GetsNoLine bytes
-
--- a line is at the front, or none ever will be
-abbrev pub IsDecided : List ℕ → Type 0
-IsDecided bytes =
-    ((line : Line) × (rest : List ℕ) × Fits line × (bytes ≡ spelled line ++ rest)) ⊎ GetsNoLine bytes

@@ -12,9 +12,9 @@ ghost use Rattle.engine_script.specs.ScriptSteps.{HappenEnds, NextEnds, IsSaid};
 
 use crate::client::{get_request, post_request, shown};
 use crate::loopback_fault::LoopbackFault;
-use crate::script::{Found, Line, is_short, line_in};
+use crate::script::{Line, is_short, line_in};
 use crate::servers::Servers;
-use engine_common::{Feed, InputFault, fill, say, say_at};
+use engine_common::{Feed, Found, InputFault, fill, say, say_at};
 use http_read::{Counted, write_all};
 use site_ids::NodeId;
 use std::alloc::Global;

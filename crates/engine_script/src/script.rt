@@ -3,13 +3,14 @@ ghost use Rattle.std.specs.Prelude.{◌≡◌, ◌≢◌, ℕ, List, ◌∷◌, 
 ghost use Rattle.site_ids.specs.Ids.{IsNode};
 ghost use Rattle.site_ids.specs.declared.Ticket.{Ticket as AbstractTicket};
 ghost use Rattle.engine_common.specs.Cuts.{Lacks};
+ghost use Rattle.engine_common.specs.Founds.{IsFound, IsDecided};
 ghost use Rattle.engine_common.specs.Submissions.{joined};
 ghost use Rattle.engine_script.specs.Script.{Line as AbstractLine, words, post_words, FitsPost, Fits};
-ghost use Rattle.engine_script.specs.Script.{IsTarget, body, get_line, turns_line, drive_line};
-ghost use Rattle.engine_script.specs.ScriptView.{line_view, post_fits, posted_words, IsFound, IsDecided};
+ghost use Rattle.engine_script.specs.Script.{IsTarget, body, spelled, get_line, turns_line, drive_line};
+ghost use Rattle.engine_script.specs.ScriptView.{line_view, post_fits, posted_words};
 
 use engine_common::{
-    Body, SubmissionLine, after, body_in, cut, number_at_node, read_node, read_number,
+    Found, SubmissionLine, after, body_in, cut, number_at_node, read_node, read_number,
     submission_after, word_after,
 };
 use site_ids::{NodeId, Ticket};
@@ -42,17 +43,6 @@ pub(crate) enum Line<'a> {
         node: NodeId,
         turns: u32,
     },
-}
-
-/// What is at the front of the bytes that were read so far.
-#[derive(Clone, Copy)]
-pub(crate) enum Found<'a> {
-    /// A line, and what follows it.
-    Line(Line<'a>, &'a [u8]),
-    /// No line yet.
-    Short,
-    /// No line, whatever follows.
-    Bad,
 }
 
 /// The words of a post.
@@ -125,9 +115,9 @@ fn plain_line(head: &[u8]) -> Option<Line<'_>>
 }
 
 /// The post, by what follows the newline after its words.
-fn posted(post: SubmissionLine, after: &[u8]) -> Found<'_>
+fn posted(post: SubmissionLine, after: &[u8]) -> Found<'_, Line<'_>>
     requires { post_fits post }
-    ensures { IsFound (joined (posted_words post) ++ (10 ∷ after.now)) result }
+    ensures { IsFound line_view Fits spelled (joined (posted_words post) ++ (10 ∷ after.now)) result }
 {
     let SubmissionLine {
         node,
@@ -135,15 +125,15 @@ fn posted(post: SubmissionLine, after: &[u8]) -> Found<'_>
         text_len,
     } = post;
     match body_in(after, text_len) {
-        Body::Text(text, rest) => Found::Line(Line::Post { node, ticket, text }, rest),
-        Body::Short => Found::Short,
-        Body::Bad => Found::Bad,
+        Found::Line(text, rest) => Found::Line(Line::Post { node, ticket, text }, rest),
+        Found::Short => Found::Short,
+        Found::Bad => Found::Bad,
     }
 }
 
 /// The line at the front of the bytes.
-pub(crate) fn line_in(bytes: &[u8]) -> Found<'_>
-    ensures { IsFound bytes.now result }
+pub(crate) fn line_in(bytes: &[u8]) -> Found<'_, Line<'_>>
+    ensures { IsFound line_view Fits spelled bytes.now result }
 {
     let Some((head, after)) = cut(bytes, b'\n') else {
         return Found::Short;
@@ -159,7 +149,7 @@ pub(crate) fn line_in(bytes: &[u8]) -> Found<'_>
 
 /// Whether bytes that follow may make a line of these.
 pub(crate) fn is_short(bytes: &[u8]) -> bool
-    ensures { result ≡ false → IsDecided bytes.now }
+    ensures { result ≡ false → IsDecided Fits spelled bytes.now }
 {
     matches!(line_in(bytes), Found::Short)
 }

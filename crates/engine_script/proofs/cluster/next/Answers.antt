@@ -3,9 +3,11 @@ use Rattle.std.specs.Io.KnownBytes.{IsAtEnd}
 use Rattle.std.proofs.lemmas.Result.{err_from_is_err_and}
 use Rattle.http_read.specs.Bytes.{end_of}
 use Rattle.engine_common.specs.Feeds.{Grown}
+use Rattle.engine_common.specs.Founds.{IsDecided}
 use Rattle.engine_common.proofs.Fed.{used_front, some_held, none_held}
-use Rattle.engine_script.specs.Script.{spelled}
-use Rattle.engine_script.specs.ScriptView.{line_view, IsDecided}
+use Rattle.engine_common.proofs.Founds.{unfound}
+use Rattle.engine_script.specs.Script.{spelled, Fits}
+use Rattle.engine_script.specs.ScriptView.{line_view}
 use Rattle.engine_script.proofs.ScriptRuns.{read_fault, line_fault, at_end, bad_line}
 use Rattle.engine_script.proofs.cluster.next.Goals as goal
 
@@ -21,15 +23,15 @@ pub returns-then-is_empty : goal.returns-then-is_empty
 returns-then-is_empty g c =
     let f = c.in_ok-fill.ensures in
     let empty = none_held _ _ c.is_empty.result c.if-is_empty.true c.is_empty.ensures c.held-held.ensures in
-    let decided : IsDecided c.fill.new.feed ⊎ IsAtEnd (end_of g.R.Read.remaining c.args.reader.now c.fill.new.reader).after = search rules in
+    let decided : IsDecided Fits spelled c.fill.new.feed ⊎ IsAtEnd (end_of g.R.Read.remaining c.args.reader.now c.fill.new.reader).after = search rules in
     (subst (λ (xs : List ℕ). Grown (end_of g.R.Read.remaining c.args.reader.now c.fill.new.reader) c.args.feed.now xs) empty f.0, f.1, at_end (end_of g.R.Read.remaining c.args.reader.now c.fill.new.reader) c.fill.new.feed decided empty)
 
 pub returns-in_default : goal.returns-in_default
 returns-in_default g c =
     let f = c.in_ok-fill.ensures in
     let some = some_held _ _ c.is_empty.result c.if-is_empty.false c.is_empty.ensures c.held-held.ensures in
-    let decided : IsDecided c.fill.new.feed ⊎ IsAtEnd (end_of g.R.Read.remaining c.args.reader.now c.fill.new.reader).after = search rules in
-    (c.fill.new.feed, f.0, bad_line (end_of g.R.Read.remaining c.args.reader.now c.fill.new.reader) c.fill.new.feed c.line_in.result decided (rw c.held-held.ensures at c.line_in.ensures) c.in_default.not-Line some)
+    let decided : IsDecided Fits spelled c.fill.new.feed ⊎ IsAtEnd (end_of g.R.Read.remaining c.args.reader.now c.fill.new.reader).after = search rules in
+    (c.fill.new.feed, f.0, bad_line (end_of g.R.Read.remaining c.args.reader.now c.fill.new.reader) c.fill.new.feed (unfound Fits spelled c.fill.new.feed line_view c.line_in.result decided (rw c.held-held.ensures at c.line_in.ensures) c.in_default.not-Line) some)
 
 pub returns-in_err-text : goal.returns-in_err-text
 returns-in_err-text g c =
