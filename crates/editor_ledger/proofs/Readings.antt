@@ -1,7 +1,8 @@
 -- What stands at the front of a text is what is read there.
-use Rattle.std.proofs.Common.{◌≡◌, ◌≢◌, ℕ, suc, ◌<◌, ◌≤◌, ◌^◌, List, [], ◌∷◌, ◌++◌, length, take, drop, get_or, true, Bool, false, true≢false, cond, codes, All, map, Option, Some, None, option_map, is_some, ◌+◌, decimal, refl, sym, ap, subst, ◌∙◌, append_assoc, append-nil, length-append, arith}
+use Rattle.std.proofs.Common.{◌≡◌, ◌≢◌, ℕ, suc, ◌<◌, ◌≤◌, ◌^◌, List, [], ◌∷◌, ◌++◌, length, take, drop, get_or, true, Bool, false, true≢false, cond, codes, All, map, Option, Some, None, option_map, is_some, ◌+◌, decimal, refl, sym, ap, subst, ◌∙◌, append_assoc, append-nil, Result, Ok, Err, MatchResult, length-append, arith}
 use Rattle.std.specs.List.{flat_map, fold}
 use Rattle.editor_ledger.specs.Firsts.{Lent}
+use Rattle.std.specs.Result.{IsErrAnd, IfErr}
 use Rattle.std.specs.Str.{IsCharBoundary}
 use Rattle.std.proofs.lemmas.List.{take_at, drop_at}
 use Rattle.std.proofs.lemmas.List.Elements.{All-append, All-map, All-nil}
@@ -277,9 +278,9 @@ no_end (sent g) more = refl
 -- at the last line no entry is left
 pub none_left : (left : List Item) (more rest : List ℕ) (o : Option Lent) → rest ≡ flat_map item_text left ++ (codes "end " ++ more)
     → option_map (λ b. b.now) o ≡ after_front (codes "end ") rest → is_some o ≡ true → left ≡ []
-none_left [] more rest o is found yes = refl
-none_left (item ∷ left) more rest None is found yes = absurd (true≢false (sym yes))
-none_left (item ∷ left) more rest (Some front) is found yes =
+none_left [] more rest o is found ends = refl
+none_left (item ∷ left) more rest None is found ends = absurd (true≢false (sym ends))
+none_left (item ∷ left) more rest (Some front) is found ends =
     let none : after_front (codes "end ") rest ≡ None =
     ap (after_front (codes "end ")) (is ∙ append_assoc (item_text item) (flat_map item_text left) (codes "end " ++ more)) ∙ no_end item _ in
     absurd (nothing front.now (sym (found ∙ none)))
@@ -288,9 +289,9 @@ none_left (item ∷ left) more rest (Some front) is found yes =
 pub one_left : (left : List Item) (more rest : List ℕ) (o : Option Lent) → rest ≡ flat_map item_text left ++ (codes "end " ++ more)
     → option_map (λ b. b.now) o ≡ after_front (codes "end ") rest → is_some o ≡ false
     → (item : Item) × (later : List Item) × (left ≡ item ∷ later) × (rest ≡ item_text item ++ (flat_map item_text later ++ (codes "end " ++ more)))
-one_left left more rest (Some front) is found no = absurd (true≢false no)
-one_left [] more rest None is found no = absurd (front_there (codes "end ") rest more found is)
-one_left (item ∷ left) more rest None is found no =
+one_left left more rest (Some front) is found goes = absurd (true≢false goes)
+one_left [] more rest None is found goes = absurd (front_there (codes "end ") rest more found is)
+one_left (item ∷ left) more rest None is found goes =
     (item, left, refl, is ∙ append_assoc (item_text item) (flat_map item_text left) (codes "end " ++ more))
 
 pub some_text : (left : List Item) (more rest : List ℕ) → rest ≡ flat_map item_text left ++ (codes "end " ++ more) → 0 < length rest
@@ -304,3 +305,13 @@ is_shorter item more =
     let whole = ap length (item_cut item more) ∙ length-append (word_of item) (32 ∷ (rest_of item ++ more)) in
     let behind = length-append (rest_of item) more in
     omega (arith, whole, behind)
+
+-- ---- faults handed on
+
+pub fails : {T E : Type 0} {P Q : E → Type 0} (r : Result T E) → IsErrAnd r P → ((e : E) → P e → Q e) → IfErr r Q
+fails (Ok x) is then = tt
+fails (Err e) is then = then e is
+
+pub only_fails : {T E : Type 0} {R : T → Type 0} {P Q : E → Type 0} (r : Result T E) → IsErrAnd r P → ((e : E) → P e → Q e) → MatchResult r R Q
+only_fails (Ok x) is then = absurd is
+only_fails (Err e) is then = then e is

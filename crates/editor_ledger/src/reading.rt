@@ -218,12 +218,7 @@ impl Ledger {
 
     /// Enters all entries of a text behind its front lines, up to the last line. Each entry has at least one
     /// byte.
-    fn enter_all(
-        &mut self,
-        alloc: Global,
-        text: &str,
-        behind: &str,
-    ) -> Result<(), LedgerReadFault>
+    fn enter_all(&mut self, alloc: Global, text: &str, behind: &str) -> Result<(), LedgerReadFault>
         ensures { (items : List Item) (more : List ℕ) → All FitsItem items
             → behind.now ≡ flat_map item_text items ++ (codes "end " ++ more)
             → MatchResult result (λ done. self.new ≡ fold entered self.old items)

@@ -4,7 +4,7 @@ use Rattle.editor_ledger.specs.Books.{Book}
 use Rattle.editor_ledger.specs.Entries.{item_text, entered}
 use Rattle.editor_ledger.specs.Sizes.{IsFile}
 use Rattle.editor_ledger.specs.Spelling.{spelled, sum_of, body}
-use Rattle.editor_ledger.proofs.Readings.{items_of, items_spelled, items_fit, items_entered, front_book}
+use Rattle.editor_ledger.proofs.Readings.{items_of, items_spelled, items_fit, items_entered, front_book, only_fails}
 use Rattle.editor_ledger.proofs.Spellings.{parted, log_part}
 use Rattle.editor_ledger.proofs.reading.parsed.Goals as goal
 
@@ -15,10 +15,11 @@ returns-in-Err c book file is =
 pub returns-in_err-enter_all-in-Ok : goal.returns-in_err-enter_all-in-Ok
 returns-in_err-enter_all-in-Ok c book file is =
     let front = c.in-Ok.ensures book.editor book.next book.last_release (log_part book) file.editor file.fits.next file.fits.last_release (sym is ∙ parted book) in
-    rw c.from_residual.ensures (c.in_err-enter_all.ensures (items_of book) _ (items_fit book file.fits) (front.1 ∙ items_spelled book))
+    let full = c.in_err-enter_all-in-Ok.ensures (items_of book) (sum_of (body book) ++ (10 ∷ [])) (items_fit book file.fits) (front.1 ∙ items_spelled book) in
+    only_fails c.from_residual.result c.from_residual.ensures.1 (λ e why. cc)
 
 pub returns-in_ok-enter_all-in-Ok : goal.returns-in_ok-enter_all-in-Ok
 returns-in_ok-enter_all-in-Ok c book file is =
     let front = c.in-Ok.ensures book.editor book.next book.last_release (log_part book) file.editor file.fits.next file.fits.last_release (sym is ∙ parted book) in
-    let entered_all = c.in_ok-enter_all.ensures (items_of book) _ (items_fit book file.fits) (front.1 ∙ items_spelled book) in
+    let entered_all = c.in_ok-enter_all-in-Ok.ensures (items_of book) (sum_of (body book) ++ (10 ∷ [])) (items_fit book file.fits) (front.1 ∙ items_spelled book) in
     entered_all ∙ ap (λ b. fold entered b (items_of book)) (ap (λ f. front_book f.editor f.next f.last_release) front.0) ∙ items_entered book
