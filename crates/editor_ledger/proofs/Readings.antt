@@ -312,6 +312,6 @@ pub fails : {T E : Type 0} {P Q : E → Type 0} (r : Result T E) → IsErrAnd r 
 fails (Ok x) is then = tt
 fails (Err e) is then = then e is
 
-pub only_fails : {T E : Type 0} {R : T → Type 0} {P Q : E → Type 0} (r : Result T E) → IsErrAnd r P → ((e : E) → P e → Q e) → MatchResult r R Q
-only_fails (Ok x) is then = absurd is
-only_fails (Err e) is then = then e is
+pub only_fails : {T E : Type 0} (R : T → Type 0) {P Q : E → Type 0} (r : Result T E) → IsErrAnd r P → ((e : E) → P e → Q e) → MatchResult r R Q
+only_fails R (Ok x) is then = absurd is
+only_fails R (Err e) is then = then e is

@@ -16,7 +16,7 @@ pub returns-in_err-enter_all-in-Ok : goal.returns-in_err-enter_all-in-Ok
 returns-in_err-enter_all-in-Ok c book file is =
     let front = c.in-Ok.ensures book.editor book.next book.last_release (log_part book) file.editor file.fits.next file.fits.last_release (sym is ∙ parted book) in
     let full = c.in_err-enter_all-in-Ok.ensures (items_of book) (sum_of (body book) ++ (10 ∷ [])) (items_fit book file.fits) (front.1 ∙ items_spelled book) in
-    only_fails c.from_residual.result c.from_residual.ensures.1 (λ e why. cc)
+    only_fails _ c.from_residual.result c.from_residual.ensures.1 (λ e why. cc)
 
 pub returns-in_ok-enter_all-in-Ok : goal.returns-in_ok-enter_all-in-Ok
 returns-in_ok-enter_all-in-Ok c book file is =

@@ -23,7 +23,7 @@ returns-in-Err c items more fits is =
 pub returns-in_err-enter-in-Ok : goal.returns-in_err-enter-in-Ok
 returns-in_err-enter-in-Ok c items more fits is =
     let full = c.in_err-enter-in-Ok.ensures.err in
-    only_fails c.from_residual.result c.from_residual.ensures.1 (λ e why. cc)
+    only_fails _ c.from_residual.result c.from_residual.ensures.1 (λ e why. cc)
 
 pub loop-preserved : goal.loop-preserved
 loop-preserved c = (
