@@ -2,6 +2,7 @@ pub mod Listing
 pub mod LookUps
 pub mod Members
 pub mod Pasts
+pub mod Readings
 pub mod Receipts
 pub mod Spellings
 pub mod SubjectCounts

@@ -31,13 +31,13 @@ digits_lack : (c : ℕ) (bs : List ℕ) → 10 ≤ digit_value c → AllDigits 1
 digits_lack c [] none all = refl
 digits_lack c (b ∷ bs) none all = rw (other_byte c b all.0 none) (digits_lack c bs none all.1)
 
-decimal_lacks : (c n : ℕ) → 10 ≤ digit_value c → Fits n → lacks c (decimal n) ≡ true
+pub decimal_lacks : (c n : ℕ) → 10 ≤ digit_value c → Fits n → lacks c (decimal n) ≡ true
 decimal_lacks c n none fits = digits_lack c (decimal n) none (decimal_is_IsNumeral n fits).0.1
 
 decimals : (m n : ℕ) → Fits m → Fits n → decimal m ≡ decimal n → m ≡ n
 decimals m n first second is = sym (decimal_is_IsNumeral m first).1 ∙ ap (digits_value 10) is ∙ (decimal_is_IsNumeral n second).1
 
-pairs : (p q : List ℕ × List ℕ) → Some p ≡ Some q → p ≡ q
+pub pairs : (p q : List ℕ × List ℕ) → Some p ≡ Some q → p ≡ q
 pairs p q is = cc
 
 number_then : (c m n : ℕ) (xs ys : List ℕ) → 10 ≤ digit_value c → Fits m → Fits n → decimal m ++ (c ∷ xs) ≡ decimal n ++ (c ∷ ys) → (m ≡ n) × (xs ≡ ys)
@@ -55,13 +55,13 @@ same_front t u xs ys long is = (
 
 -- ---- lines and entries
 
-newline : 10 ≤ digit_value 10
+pub newline : 10 ≤ digit_value 10
 newline = omega arith
 
-space : 10 ≤ digit_value 32
+pub space : 10 ≤ digit_value 32
 space = omega arith
 
-same_released : (a b : Released) → a.exact ≡ b.exact → a.release ≡ b.release → a.time ≡ b.time → a.commands ≡ b.commands
+pub same_released : (a b : Released) → a.exact ≡ b.exact → a.release ≡ b.release → a.time ≡ b.time → a.commands ≡ b.commands
     → a ≡ b
 same_released a b exact release time commands =
     ap (λ (t : Bool). record a { exact = t }) exact
@@ -127,7 +127,7 @@ entry_one word g h xs ys first second is =
 -- ---- sections
 
 -- the list begins with the byte
-abbrev starts : ℕ → List ℕ → Bool
+abbrev pub starts : ℕ → List ℕ → Bool
 starts b [] = false
 starts b (x ∷ xs) = eqb x b
 
@@ -149,19 +149,19 @@ section f P b lead one (a ∷ more) (c ∷ cs) xs ys first second absent none is
     (ap (λ x. x ∷ more) head.0 ∙ ap (λ zs. c ∷ zs) rest.0, rest.1)
 
 -- the sections behind those of releases, of messages, of kept texts
-abbrev sent_part : Book → List ℕ
+abbrev pub sent_part : Book → List ℕ
 sent_part book = flat_map sent_entry book.sent ++ last_line (body book)
 
-abbrev past_part : Book → List ℕ
+abbrev pub past_part : Book → List ℕ
 past_part book = flat_map past_entry book.past ++ sent_part book
 
-abbrev kept_part : Book → List ℕ
+abbrev pub kept_part : Book → List ℕ
 kept_part book = flat_map kept_entry book.kept ++ past_part book
 
-abbrev message_part : Book → List ℕ
+abbrev pub message_part : Book → List ℕ
 message_part book = flat_map message_entry book.messages ++ kept_part book
 
-abbrev log_part : Book → List ℕ
+abbrev pub log_part : Book → List ℕ
 log_part book = flat_map released_line book.log ++ message_part book
 
 no_past : (text : List ℕ) (sent : List Given) → starts 119 (flat_map sent_entry sent ++ last_line text) ≡ false
@@ -194,7 +194,7 @@ in_parts : (front log messages kept past sent end : List ℕ)
     → (front ++ (log ++ (messages ++ (kept ++ (past ++ sent))))) ++ end ≡ front ++ (log ++ (messages ++ (kept ++ (past ++ (sent ++ end)))))
 in_parts front log messages kept past sent end = simp append_assoc
 
-parted : (book : Book) → spelled book ≡ front_lines book.editor book.next book.last_release ++ log_part book
+pub parted : (book : Book) → spelled book ≡ front_lines book.editor book.next book.last_release ++ log_part book
 parted book = in_parts (front_lines book.editor book.next book.last_release) (flat_map released_line book.log)
     (flat_map message_entry book.messages) (flat_map kept_entry book.kept) (flat_map past_entry book.past)
     (flat_map sent_entry book.sent) (last_line (body book))

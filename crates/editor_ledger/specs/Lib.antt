@@ -1,4 +1,5 @@
 pub mod Books
+pub mod Entries
 pub mod Firsts
 pub mod Heads
 pub mod Histories

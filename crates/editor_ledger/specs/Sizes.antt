@@ -24,3 +24,8 @@ pub record FitsBook (book : Book) : Type 0 where
   pub sent : All FitsGiven book.sent
   pub past : All FitsGiven book.past
   pub messages : All FitsGiven book.messages
+
+-- its numbers are such as the file of a ledger has
+pub record IsFile (book : Book) : Type 0 where
+  pub fits : FitsBook book
+  pub editor : book.editor < 2 ^ 32

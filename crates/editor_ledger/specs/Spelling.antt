@@ -11,19 +11,25 @@ abbrev pub released_word : Bool → List ℕ
 released_word true = codes "released "
 released_word false = codes "released_by "
 
+abbrev pub released_numbers : Released → List ℕ
+released_numbers r = decimal r.release ++ (32 ∷ (decimal r.time ++ (32 ∷ (decimal r.commands ++ (10 ∷ [])))))
+
 abbrev pub released_line : Released → List ℕ
-released_line r =
-    released_word r.exact
-    ++ (decimal r.release ++ (32 ∷ (decimal r.time ++ (32 ∷ (decimal r.commands ++ (10 ∷ []))))))
+released_line r = released_word r.exact ++ released_numbers r
 
--- a text after the line of its length, and a newline
+-- a text after its length, and a newline
+abbrev pub counted_text : List ℕ → List ℕ
+counted_text text = decimal (length text) ++ (10 ∷ (text ++ (10 ∷ [])))
+
 abbrev pub kept_entry : List ℕ → List ℕ
-kept_entry text = codes "has " ++ (decimal (length text) ++ (10 ∷ (text ++ (10 ∷ []))))
+kept_entry text = codes "has " ++ counted_text text
 
--- a text after the line of a word, a number and its length
+-- a text after a number and its length
+abbrev pub numbered_text : Given → List ℕ
+numbered_text g = decimal g.number ++ (32 ∷ counted_text g.text)
+
 abbrev pub numbered_entry : List ℕ → Given → List ℕ
-numbered_entry word g =
-    word ++ (32 ∷ (decimal g.number ++ (32 ∷ (decimal (length g.text) ++ (10 ∷ (g.text ++ (10 ∷ [])))))))
+numbered_entry word g = word ++ (32 ∷ numbered_text g)
 
 abbrev pub sent_entry : Given → List ℕ
 sent_entry = numbered_entry (codes "sent")

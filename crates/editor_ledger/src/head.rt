@@ -16,7 +16,8 @@ pub(crate) struct Head<'a> {
     pub name: &'a str,
 }
 
-fn cut(text: &str, at: char) -> Option<(&str, &str)>
+/// What is before the first such character, and what is after it.
+pub(crate) fn cut(text: &str, at: char) -> Option<(&str, &str)>
     requires { at < 128 }
     ensures { option_map pair_view result ≡ cut_at at text.now }
 {
