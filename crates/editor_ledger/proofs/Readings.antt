@@ -1,22 +1,21 @@
 -- What stands at the front of a text is what is read there.
-use Rattle.std.proofs.Common.{◌≡◌, ◌≢◌, ℕ, suc, ◌<◌, ◌≤◌, ◌^◌, List, [], ◌∷◌, ◌++◌, length, take, drop, get_or, true, Bool, false, true≢false, cond, codes, All, map, Option, Some, None, option_map, is_some, ◌+◌, decimal, refl, sym, ap, subst, ◌∙◌, append_assoc, append-nil, Result, Ok, Err, MatchResult, length-append, arith}
+use Rattle.std.proofs.Common.{◌≡◌, ◌≢◌, ℕ, ◌<◌, ◌≤◌, List, [], ◌∷◌, ◌++◌, length, get_or, true, Bool, false, true≢false, cond, codes, All, map, Option, Some, None, option_map, is_some, ◌+◌, decimal, refl, sym, ap, subst, ◌∙◌, append_assoc, append-nil, Result, Ok, Err, MatchResult, length-append, arith}
 use Rattle.std.specs.List.{flat_map, fold}
 use Rattle.editor_ledger.specs.Firsts.{Lent}
 use Rattle.std.specs.Result.{IsErrAnd, IfErr}
 use Rattle.std.specs.Str.{IsCharBoundary}
-use Rattle.std.proofs.lemmas.List.{take_at, drop_at}
 use Rattle.std.proofs.lemmas.List.Elements.{All-append, All-map, All-nil}
 use Rattle.std.proofs.lemmas.Str.{IsCharBoundary-before_ascii}
 use Rattle.command.specs.Cuts.{after_front, cut_at}
 use Rattle.command.proofs.CutLemmas.{after_front-append}
 use Rattle.editor_ledger.specs.Books.{Given, Book, fresh}
 use Rattle.editor_ledger.specs.Entries.{Item, released, told, has, was, sent, FitsItem, item_text, entered}
-use Rattle.editor_ledger.specs.Sizes.{Fits, FitsReleased, FitsText, FitsGiven, FitsBook}
+use Rattle.editor_ledger.specs.Sizes.{FitsReleased, FitsBook}
 use Rattle.editor_ledger.specs.Spelling.{released_word, released_numbers, counted_text, numbered_text, released_line}
-use Rattle.editor_ledger.specs.Spelling.{front_lines, kept_entry, message_entry, past_entry, sent_entry, body, last_line}
+use Rattle.editor_ledger.specs.Spelling.{front_lines, kept_entry, message_entry, past_entry, body, last_line}
 use Rattle.editor_ledger.specs.declared.released.Released.{Released}
 use Rattle.editor_ledger.proofs.Words.{lacks, cut_it}
-use Rattle.editor_ledger.proofs.Spellings.{decimal_lacks, pairs, starts, log_part, message_part, kept_part, past_part, sent_part}
+use Rattle.editor_ledger.proofs.Spellings.{pairs, starts, log_part}
 
 -- ---- fronts and cuts
 

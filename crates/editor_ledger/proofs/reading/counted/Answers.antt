@@ -1,5 +1,5 @@
-use Rattle.std.proofs.Common.{◌≡◌, ◌∷◌, ◌++◌, length, true≢false, sym, ap, ◌∙◌}
-use Rattle.editor_ledger.proofs.Readings.{counted_then, boundary, front_is, front_there}
+use Rattle.std.proofs.Common.{length, true≢false, sym, ◌∙◌}
+use Rattle.editor_ledger.proofs.Readings.{counted_then, boundary}
 use Rattle.editor_ledger.proofs.Spellings.{newline}
 use Rattle.editor_ledger.proofs.reading.counted.Goals as goal
 

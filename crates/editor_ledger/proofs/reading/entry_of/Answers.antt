@@ -1,5 +1,5 @@
-use Rattle.std.proofs.Common.{◌≡◌, true, false, codes, sym, ap, ◌∙◌}
-use Rattle.editor_ledger.specs.Entries.{Item, released, told, has, was, sent}
+use Rattle.std.proofs.Common.{true, false, codes, sym, ap, ◌∙◌}
+use Rattle.editor_ledger.specs.Entries.{released, told, has, was, sent}
 use Rattle.editor_ledger.proofs.Readings.{no_cut, released_arm, arm, no_arm, told_only, has_only, was_only, sent_only, given_is}
 use Rattle.editor_ledger.proofs.reading.entry_of.Goals as goal
 

@@ -1,6 +1,5 @@
-use Rattle.std.proofs.Common.{◌≡◌, ◌++◌, ◌∷◌, ◌<◌, ◌^◌, ℕ, List, codes, decimal, true, is_ok, sym, ◌∙◌, arith}
+use Rattle.std.proofs.Common.{◌≡◌, codes, true, is_ok, ◌∙◌, arith}
 use Rattle.std.proofs.lemmas.Result.{OkIff-decides}
-use Rattle.editor_ledger.specs.Spelling.{front_lines}
 use Rattle.editor_ledger.proofs.Readings.{front_then, front_is, front_there}
 use Rattle.editor_ledger.proofs.reading.front_of.Goals as goal
 

@@ -1,4 +1,4 @@
-use Rattle.std.proofs.Common.{◌≡◌, ap, decimal}
+use Rattle.std.proofs.Common.{◌≡◌, decimal}
 use Rattle.std.proofs.lemmas.Fmt.{parse-decimal}
 use Rattle.editor_ledger.proofs.Readings.{cut_there, cut_so}
 use Rattle.editor_ledger.proofs.Spellings.{decimal_lacks}

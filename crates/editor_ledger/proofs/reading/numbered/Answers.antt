@@ -1,4 +1,4 @@
-use Rattle.std.proofs.Common.{◌≡◌, ◌∙◌}
+use Rattle.std.proofs.Common.{◌∙◌}
 use Rattle.editor_ledger.proofs.Readings.{numbered_then}
 use Rattle.editor_ledger.proofs.Spellings.{space}
 use Rattle.editor_ledger.proofs.reading.numbered.Goals as goal

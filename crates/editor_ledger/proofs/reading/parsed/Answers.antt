@@ -1,9 +1,8 @@
-use Rattle.std.proofs.Common.{◌≡◌, ◌++◌, ◌∷◌, [], ℕ, List, codes, sym, ap, subst, ◌∙◌}
-use Rattle.std.specs.List.{flat_map, fold}
+use Rattle.std.proofs.Common.{◌++◌, ◌∷◌, [], sym, ap, ◌∙◌}
+use Rattle.std.specs.List.{fold}
 use Rattle.editor_ledger.specs.Books.{Book}
-use Rattle.editor_ledger.specs.Entries.{item_text, entered}
-use Rattle.editor_ledger.specs.Sizes.{IsFile}
-use Rattle.editor_ledger.specs.Spelling.{spelled, sum_of, body}
+use Rattle.editor_ledger.specs.Entries.{entered}
+use Rattle.editor_ledger.specs.Spelling.{sum_of, body}
 use Rattle.editor_ledger.proofs.Readings.{items_of, items_spelled, items_fit, items_entered, front_book, only_fails}
 use Rattle.editor_ledger.proofs.Spellings.{parted, log_part}
 use Rattle.editor_ledger.specs.declared.reading.Front.{Front}

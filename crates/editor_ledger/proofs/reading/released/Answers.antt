@@ -1,4 +1,4 @@
-use Rattle.std.proofs.Common.{◌≡◌, sym, ◌∙◌}
+use Rattle.std.proofs.Common.{sym, ◌∙◌}
 use Rattle.editor_ledger.proofs.Readings.{released_then}
 use Rattle.editor_ledger.proofs.Spellings.{newline, space, same_released}
 use Rattle.editor_ledger.proofs.reading.released.Goals as goal

@@ -1,8 +1,8 @@
-use Rattle.std.proofs.Common.{◌≡◌, ◌∷◌, ◌++◌, [], List, ℕ, length, All, codes, refl, sym, ap, subst, ◌∙◌, arith, rules}
+use Rattle.std.proofs.Common.{◌++◌, length, All, codes, refl, sym, ap, subst, ◌∙◌, arith, rules}
 use Rattle.std.proofs.lemmas.List.Elements.{All-head, All-tail}
 use Rattle.std.specs.List.{flat_map, fold}
-use Rattle.editor_ledger.specs.Entries.{Item, FitsItem, item_text, entered}
-use Rattle.editor_ledger.proofs.Readings.{Left, none_left, one_left, some_text, is_shorter, only_fails}
+use Rattle.editor_ledger.specs.Entries.{FitsItem, item_text, entered}
+use Rattle.editor_ledger.proofs.Readings.{none_left, one_left, some_text, is_shorter, only_fails}
 use Rattle.editor_ledger.proofs.ledger.Ledger.enter_all.Goals as goal
 
 pub loop-init : goal.loop-init

@@ -1,4 +1,4 @@
-use Rattle.std.proofs.Common.{◌≡◌, ap, ◌∙◌}
+use Rattle.std.proofs.Common.{ap, ◌∙◌}
 use Rattle.editor_ledger.specs.Spelling.{spelled}
 use Rattle.editor_ledger.proofs.Readings.{fails}
 use Rattle.editor_ledger.proofs.ledger.Ledger.read.Goals as goal
