@@ -31,8 +31,8 @@ enum Entry<'a> {
     Sent(u64, &'a str),
 }
 
-// Each function that reads gives what it read, and what follows that. If it refuses, it gives what is left
-// from the place on where the text is no longer a ledger's.
+// Each function that reads returns what it read, and what follows that. If it refuses, it returns the rest of
+// the text from the place where the text is no longer a ledger's.
 
 /// What follows a front.
 fn after<'a>(text: &'a str, front: &str) -> Option<&'a str>
@@ -216,8 +216,8 @@ impl Ledger {
         Ok(())
     }
 
-    /// Enters all entries of a text behind its front lines, up to the last line. Each entry has at least one
-    /// byte.
+    /// Enters all entries of a text that follow its front lines, up to the last line. Each entry has at least
+    /// one byte.
     fn enter_all(&mut self, alloc: Global, text: &str, behind: &str) -> Result<(), LedgerReadFault>
         ensures { (items : List Item) (more : List ℕ) → All FitsItem items
             → behind.now ≡ flat_map item_text items ++ (codes "end " ++ more)
