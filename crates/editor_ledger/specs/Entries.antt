@@ -1,4 +1,4 @@
--- The entries of a ledger's file, behind its front lines.
+-- The entries of a ledger's file, after its front lines.
 use Rattle.std.specs.Prelude.{List, ℕ, [], ◌∷◌, ◌++◌}
 use Rattle.editor_ledger.specs.Books.{Given, Book}
 use Rattle.editor_ledger.specs.Sizes.{FitsReleased, FitsText, FitsGiven}
@@ -35,7 +35,7 @@ item_text (has t) = kept_entry t
 item_text (was g) = past_entry g
 item_text (sent g) = sent_entry g
 
--- the ledger with that entry behind those of its kind
+-- the ledger with that entry after those of its kind
 abbrev pub entered : Book → Item → Book
 entered book (released r) = record book { log = book.log ++ r ∷ [] }
 entered book (told g) = record book { messages = book.messages ++ g ∷ [] }
