@@ -252,8 +252,8 @@ pub front_then : (editor next last_release : ℕ) (more : List ℕ)
     ++ (10 ∷ (codes "next " ++ (decimal next ++ (10 ∷ (codes "last_release " ++ (decimal last_release ++ (10 ∷ more)))))))))
 front_then editor next last_release more =
     let last : List ℕ = codes "\nlast_release " ++ (decimal last_release ++ (10 ∷ [])) in
-    let behind : List ℕ = codes "\nnext " ++ (decimal next ++ last) in
-    ap (λ (t : List ℕ). codes "published 2\neditor " ++ t) (append_assoc (decimal editor) behind more
+    let rest : List ℕ = codes "\nnext " ++ (decimal next ++ last) in
+    ap (λ (t : List ℕ). codes "published 2\neditor " ++ t) (append_assoc (decimal editor) rest more
     ∙ ap (λ (t : List ℕ). decimal editor ++ (codes "\nnext " ++ t)) (append_assoc (decimal next) last more
     ∙ ap (λ (t : List ℕ). decimal next ++ (codes "\nlast_release " ++ t)) (append_assoc (decimal last_release) (10 ∷ []) more)))
 
@@ -302,8 +302,8 @@ some_text left more rest is =
 pub is_shorter : (item : Item) (more : List ℕ) → length more < length (item_text item ++ more)
 is_shorter item more =
     let whole = ap length (item_cut item more) ∙ length-append (word_of item) (32 ∷ (rest_of item ++ more)) in
-    let behind = length-append (rest_of item) more in
-    omega (arith, whole, behind)
+    let rest = length-append (rest_of item) more in
+    omega (arith, whole, rest)
 
 -- ---- faults handed on
 

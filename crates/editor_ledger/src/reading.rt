@@ -90,11 +90,11 @@ fn counted(text: &str) -> Result<(&str, &str), &str>
         → IsOkAnd result (λ p. (p.0.now ≡ t) × (p.1.now ≡ more)) }
 {
     let (length, rest) = number(text, '\n')?;
-    let Some((counted, behind)) = rest.split_at_checked(length as usize) else {
+    let Some((counted, end)) = rest.split_at_checked(length as usize) else {
         return Err(rest);
     };
-    match after(behind, "\n") {
-        Some(behind) => Ok((counted, behind)),
+    match after(end, "\n") {
+        Some(left) => Ok((counted, left)),
         None => Err(rest),
     }
 }
@@ -161,10 +161,10 @@ fn front_of(text: &str) -> Result<(Front, &str), &str>
         → IsOkAnd result (λ p. (p.0 ≡ record { editor = editor; next = next; last_release = last_release })
         × (p.1.now ≡ more)) }
 {
-    let Some(behind) = after(text, "published 2\n") else {
+    let Some(lines) = after(text, "published 2\n") else {
         return Err(text);
     };
-    let (editor, rest) = line(behind, "editor ")?;
+    let (editor, rest) = line(lines, "editor ")?;
     let (next, rest) = line(rest, "next ")?;
     let (last_release, rest) = line(rest, "last_release ")?;
     match u32::try_from(editor) {
@@ -176,7 +176,7 @@ fn front_of(text: &str) -> Result<(Front, &str), &str>
             },
             rest,
         )),
-        Err(_) => Err(behind),
+        Err(_) => Err(lines),
     }
 }
 
@@ -216,16 +216,16 @@ impl Ledger {
         Ok(())
     }
 
-    /// Enters all entries of a text that follow its front lines, up to the last line. Each entry has at least
-    /// one byte.
-    fn enter_all(&mut self, alloc: Global, text: &str, behind: &str) -> Result<(), LedgerReadFault>
+    /// Enters all entries of a text, which follow its front lines, up to the last line. Each entry has at
+    /// least one byte.
+    fn enter_all(&mut self, alloc: Global, text: &str, entries: &str) -> Result<(), LedgerReadFault>
         ensures { (items : List Item) (more : List ℕ) → All FitsItem items
-            → behind.now ≡ flat_map item_text items ++ (codes "end " ++ more)
+            → entries.now ≡ flat_map item_text items ++ (codes "end " ++ more)
             → MatchResult result (λ done. self.new ≡ fold entered self.old items)
             (λ why. why ≡ LedgerReadFault.OutOfMemory) }
     {
-        let mut rest = behind;
-        for _ in 0..behind.len() {
+        let mut rest = entries;
+        for _ in 0..entries.len() {
             if after(rest, LAST).is_some() {
                 return Ok(());
             }

@@ -6,7 +6,7 @@ use Rattle.editor_ledger.proofs.Readings.{none_left, one_left, some_text, is_sho
 use Rattle.editor_ledger.proofs.ledger.Ledger.enter_all.Goals as goal
 
 pub loop-init : goal.loop-init
-loop-init c = (c.utf8.behind, λ items more fits is. record { left = items; fits = fits; text = is; whole = refl; short = omega arith })
+loop-init c = (c.utf8.entries, λ items more fits is. record { left = items; fits = fits; text = is; whole = refl; short = omega arith })
 
 pub returns-then-is_some : goal.returns-then-is_some
 returns-then-is_some c items more fits is =

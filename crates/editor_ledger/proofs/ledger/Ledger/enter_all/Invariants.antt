@@ -9,4 +9,4 @@ use Rattle.editor_ledger.proofs.ledger.Ledger.enter_all.Given as goal
 -- of the entries of a file some are left
 abbrev pub invariant-loop : goal.invariant-loop
 invariant-loop l = shadow (Utf8 l.rest) × ((items : List Item) (more : List ℕ) → All FitsItem items
-    → l.behind ≡ flat_map item_text items ++ (codes "end " ++ more) → Left l.fn.self l.self items more l.rest l.counter (length l.behind))
+    → l.entries ≡ flat_map item_text items ++ (codes "end " ++ more) → Left l.fn.self l.self items more l.rest l.counter (length l.entries))
