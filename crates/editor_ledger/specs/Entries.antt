@@ -7,6 +7,7 @@ use Rattle.editor_ledger.specs.declared.reading.Entry.{Entry}
 use Rattle.editor_ledger.specs.declared.reading.Entry.TheVariants as of
 use Rattle.editor_ledger.specs.declared.released.Released.{Released}
 
+-- an entry: a release of the log, a message, a text that the group has, one that it had, one on its way
 pub data Item : Type 0 where
   released : Released → Item
   told : Given → Item
@@ -14,6 +15,7 @@ pub data Item : Type 0 where
   was : Given → Item
   sent : Given → Item
 
+-- the entry that the code's stands for
 abbrev pub entry_view : Entry → Item
 entry_view (of.Released r) = released r
 entry_view (of.Message number text) = told (record { number = number; text = text.now })
@@ -21,6 +23,7 @@ entry_view (of.Kept text) = has text.now
 entry_view (of.Past number text) = was (record { number = number; text = text.now })
 entry_view (of.Sent number text) = sent (record { number = number; text = text.now })
 
+-- a file can keep its numbers
 abbrev pub FitsItem : Item → Type 0
 FitsItem (released r) = FitsReleased r
 FitsItem (told g) = FitsGiven g
@@ -28,6 +31,7 @@ FitsItem (has t) = FitsText t
 FitsItem (was g) = FitsGiven g
 FitsItem (sent g) = FitsGiven g
 
+-- how it is spelled
 abbrev pub item_text : Item → List ℕ
 item_text (released r) = released_line r
 item_text (told g) = message_entry g

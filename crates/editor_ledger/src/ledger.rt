@@ -196,8 +196,8 @@ impl Ledger {
     }
 
     /// Plans what turns the texts that the group has into the wanted ones, each about another kind and name.
-    /// It keeps what the group had before each. It puts texts again that the group has by this ledger:
-    /// another editor may have put something in their place.
+    /// It keeps what the group had before each. Those of `again` are put again, though the group has them by
+    /// this ledger: another editor may have put something in their place.
     pub fn plan(
         &mut self,
         alloc: Global,

@@ -60,7 +60,7 @@ abbrev pub AreNoted : ℕ → List (List ℕ) → Delivered → Delivered → Ty
 AreNoted n [] old new = new ≡ old
 AreNoted n (bytes ∷ came) old new = (mid : Delivered) × IsNoted n bytes old mid × AreNoted n came mid new
 
--- no more of these datagrams spelled no message than there are, and what all of them add is noted
+-- at most all of these datagrams are counted as malformed, and what each of them adds is noted
 pub record NotesBatch {E : Type 0} (n : ℕ) (came : List (Vec ℕ Global)) (before after : Delivered)
     (result : Result ℕ E) : Type 0 where
   pub few : IfOk result (λ malformed. malformed ≤ length came)
