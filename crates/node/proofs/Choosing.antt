@@ -6,6 +6,7 @@ use Rattle.std.specs.Option.{is_some, option_map}
 use Rattle.std.proofs.lemmas.List.{take_all}
 use Rattle.std.proofs.lemmas.Slice.Eq.{bytes_eq-Decides}
 use Rattle.site_ids.specs.Ids.{IsInstance}
+use Rattle.site_ids.specs.Spans.{IsInSpan}
 use Rattle.site_ids.proofs.MemberLemmas.{in_get}
 use Rattle.proposer.specs.Attempts.{Attempt}
 use Rattle.node.specs.declared.queue.Waiting.{Waiting}
@@ -80,10 +81,6 @@ no_next s first past is none short i next =
 
 pub past_last : (first past : ℕ) → IsInstance first → ¬ IsInstance (first + past) → (j : ℕ) → IsInstance j → j < first + 64 → j < first + past
 past_last first past is none j instance near = ⊎_elim (λ less. less) (λ far. absurd (none (omega (arith, is.0), omega (arith, far, instance.1)))) (order j (first + past))
-
--- no such instance is there, by the number that was added to
-pub not_there : (n first past : ℕ) → n ≡ first → ¬ IsInstance (n + past) → ¬ IsInstance (first + past)
-not_there n first past is none = subst (λ (m : ℕ). ¬ IsInstance (m + past)) is none
 
 pub all_seen : (first past : ℕ) → past ≤ 64 → 64 ≤ past → (j : ℕ) → IsInstance j → j < first + 64 → j < first + past
 all_seen first past within done j instance near = omega (arith, within, done, near)
@@ -165,28 +162,21 @@ not_untried s i own v tried some none = some_own (s.attempts i) v (sym some ∙ 
 
 -- ---- instances one after another
 
--- all from this one up to another, which isn't among them
-abbrev pub FreeUpTo : Node → ℕ → ℕ → Type 0
-FreeUpTo s i next = (j : ℕ) → i ≤ j → j < next → IsFree s j
+-- all of a span
+abbrev pub AreFree : Node → ℕ → ℕ → Type 0
+AreFree s i k = (j : ℕ) → IsInSpan i k j → IsFree s j
 
-pub free_first : (s : Node) (i next : ℕ) → IsNextFree s i → next ≡ i + 1 → FreeUpTo s i next
-free_first s i next is e j from below = subst (IsFree s) (same i next j e from below) is.free
+pub free_first : (s : Node) (i : ℕ) → IsNextFree s i → AreFree s i 1
+free_first s i is j within = subst (IsFree s) (same i j within) is.free
   where
-    same : (i next j : ℕ) → next ≡ i + 1 → i ≤ j → j < next → i ≡ j
-    same i next j e from below = omega (arith, e, from, below)
+    same : (i j : ℕ) → IsInSpan i 1 j → i ≡ j
+    same i j within = omega (arith, within.0, within.1)
 
-pub free_more : (s : Node) (i next : ℕ) → FreeUpTo s i next → IsFree s next → FreeUpTo s i (next + 1)
-free_more s i next free here j from below = ⊎_elim (λ (e : j ≡ next). subst (IsFree s) (sym e) here) (λ less. free j from less) (last_or_not j next below)
-
-pub free_run : (s : Node) (first i next k : ℕ) → FreeUpTo s i next → i < next → next ≤ first + 64 → (next ≡ first + 64) ⊎ (¬ IsFree s next) → k ≡ next - i → IsFreeRun s first i k
-free_run s first i next k free some near ends is =
-    let at : next ≡ i + k = omega (arith, is, some) in
-    record {
-      some = omega (arith, is, some);
-      free = λ j within. free j within.0 (omega (arith, within.1, at));
-      near = omega (arith, at, near);
-      ends = ⊎_elim (λ last. inl (omega (arith, at, last))) (λ none. inr (λ more. none (subst (IsFree s) (sym at) more))) ends;
-    }
+pub free_more : (s : Node) (i k : ℕ) → AreFree s i k → IsFree s (i + k) → AreFree s i (k + 1)
+free_more s i k free here j within = ⊎_elim
+    (λ (e : j ≡ i + k). subst (IsFree s) (sym e) here)
+    (λ less. free j (within.0, less))
+    (last_or_not j (i + k) (omega (arith, within.1)))
 
 -- ---- the oldest untried values
 

@@ -21,13 +21,11 @@ impl<D: Disk> Node<D> {
             → IsFirstUnknown s.known first → IsSentAgain self.now.me s first again.items) }
     {
         let mut again = Vec::new(self.alloc);
-        let mut past = 1;
-        while past < WINDOW {
-            let Some(instance) = Instance::new(first.number() + past) else {
+        for past in 1..WINDOW {
+            let Some(instance) = first.plus(past) else {
                 return Ok(again);
             };
             self.push_latest(instance, &mut again)?;
-            past += 1;
         }
         Ok(again)
     }

@@ -91,13 +91,11 @@ impl<D: Disk> Node<D> {
         if self.is_full(first) {
             return None;
         }
-        let mut past = 0;
-        while past < WINDOW {
-            let instance = Instance::new(first.number() + past)?;
+        for past in 0..WINDOW {
+            let instance = first.plus(past)?;
             if self.is_free(instance) {
                 return Some(instance);
             }
-            past += 1;
         }
         None
     }
@@ -107,7 +105,7 @@ impl<D: Disk> Node<D> {
         ensures { (s : AbstractNode) → IsNodeOf self.now s → IsFirstUnknown s.known first → IsTrue result
             → (i : ℕ) → ¬ IsNextFree s i }
     {
-        match Instance::new(first.number() + (WINDOW - 1)) {
+        match first.plus(WINDOW - 1) {
             Some(last) => self.proposer.own_value(last).is_some(),
             None => false,
         }
@@ -120,18 +118,16 @@ impl<D: Disk> Node<D> {
             → IsNextFree s instance → IsFreeRun s first instance result }
         ensures span { IsSpan instance result }
     {
-        let end = first.number() + WINDOW;
-        let mut next = instance.number() + 1;
-        while next < end {
-            let Some(at) = Instance::new(next) else {
-                return (next - instance.number()) as usize;
+        let most = first.number() + WINDOW - instance.number();
+        for past in 1..most {
+            let Some(at) = instance.plus(past) else {
+                return past as usize;
             };
             if !self.is_free(at) {
-                return (next - instance.number()) as usize;
+                return past as usize;
             }
-            next += 1;
         }
-        (next - instance.number()) as usize
+        most as usize
     }
 
     /// Whether the instance is unknown and has no attempt.

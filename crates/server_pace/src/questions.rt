@@ -60,7 +60,7 @@ struct Next {
 fn is_full<D: Disk>(node: &Node<D>, first: Instance) -> bool
     ensures { (s : AbstractNode) → IsNodeOf node.now s → IsTrue result ↔ IsFull s first }
 {
-    match Instance::new(first.number() + (MAX_TOLD - 1)) {
+    match first.plus(MAX_TOLD - 1) {
         Some(last) => node.is_tellable(last),
         None => false,
     }

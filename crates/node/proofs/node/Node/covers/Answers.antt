@@ -4,29 +4,28 @@ use Rattle.node.proofs.ToldAgain.{begun_covered, more_covered, all_covered}
 use Rattle.node.proofs.node.Node.covers.Goals as goal
 
 pub loop-past-init : goal.loop-past-init
-loop-past-init g c = record { within = omega arith; left = 64; counted = refl; so_far = λ s stands. begun_covered s c.args.first }
+loop-past-init g c = record { left = 64; counted = refl; so_far = λ s stands. begun_covered s c.args.first }
 
 -- no room for the next
 pub returns-in_default-clause-covered : goal.returns-in_default-clause-covered
 returns-in_default-clause-covered g c = λ s stands.
     let l = c.loop-past in
     all_covered s c.args.first _ l.room l.past (63 - l.past) l.invariant.left c.told_size.result
-    (omega (arith, l.invariant.counted, c.loop-past-test.true)) (l.invariant.so_far s stands)
-    (c.told_size.ensures s stands ∙ ap (λ n. told_size s (n + l.past)) c.number.ensures.is)
+    (omega (arith, l.invariant.counted)) (l.invariant.so_far s stands)
+    (c.told_size.ensures s stands)
     (c.in_default.ensures)
 
 pub loop-past-preserved : goal.loop-past-preserved
 loop-past-preserved g c =
     let l = c.loop-past in
     record {
-      within = omega (arith, c.loop-past-test.true);
       left = 63 - l.past;
-      counted = omega (arith, c.loop-past-test.true);
+      counted = omega arith;
       so_far = λ s stands.
           let fits = c.in-Some.ensures in
           more_covered s c.args.first _ l.room l.past (63 - l.past) l.invariant.left c.told_size.result
-          (omega (arith, l.invariant.counted, c.loop-past-test.true)) (l.invariant.so_far s stands)
-          (c.told_size.ensures s stands ∙ ap (λ n. told_size s (n + l.past)) c.number.ensures.is)
+          (omega (arith, l.invariant.counted)) (l.invariant.so_far s stands)
+          (c.told_size.ensures s stands)
           fits.0
           ∙ ap (λ left. l.past + 1 + covered left s (63 - l.past) (c.args.first + (l.past + 1))) (sym fits.1);
     }
@@ -35,6 +34,6 @@ loop-past-preserved g c =
 pub returns-clause-covered : goal.returns-clause-covered
 returns-clause-covered g c = λ s stands.
     let l = c.loop-past in
-    let none : l.invariant.left ≡ 0 = omega (arith, l.invariant.counted, c.loop-past-test.false) in
+    let none : l.invariant.left ≡ 0 = omega (arith, l.invariant.counted) in
     let there = l.invariant.so_far s stands ∙ ap (λ k. l.past + covered l.room s k (c.args.first + l.past)) none in
     omega (arith, there)

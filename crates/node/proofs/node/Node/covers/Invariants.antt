@@ -1,4 +1,4 @@
-use Rattle.std.proofs.Common.{◌≡◌, ◌+◌, ◌-◌, ◌≤◌, ℕ}
+use Rattle.std.proofs.Common.{◌≡◌, ◌+◌, ℕ}
 use Rattle.node.specs.Nodes.{Node}
 use Rattle.node.specs.Standing.{IsNodeOf}
 use Rattle.node.specs.Tellings.{covered, covered_from}
@@ -7,11 +7,7 @@ use Rattle.node.proofs.node.Node.covers.Given as goal
 -- so many are covered, and then those that are left
 abbrev pub invariant-loop-past : goal.invariant-loop-past
 invariant-loop-past g l = record {
-  within : l.past ≤ 64;
   left : ℕ;
   counted : l.past + left ≡ 64;
   so_far : (s : Node) → IsNodeOf l.self s → covered_from s l.first ≡ l.past + covered l.room s left (l.first + l.past);
 }
-
-abbrev pub decreases-loop-past : goal.decreases-loop-past
-decreases-loop-past g l = 64 - l.past

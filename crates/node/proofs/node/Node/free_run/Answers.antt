@@ -1,29 +1,26 @@
-use Rattle.std.proofs.Common.{◌≡◌, inl, inr, ◌+◌, ◌-◌, ℕ, None, true, false, sym, ap, subst, ◌∙◌, arith}
-use Rattle.node.proofs.Choosing.{free_first, free_more, free_run}
+use Rattle.std.proofs.Common.{◌≡◌, inl, inr, ◌+◌, ℕ, None, true, false, sym, ap, subst, ◌∙◌, arith}
+use Rattle.site_ids.specs.Ids.{IsInstance}
+use Rattle.node.specs.Nodes.{Node, IsUnknown}
+use Rattle.node.specs.Calls.{IsFree}
+use Rattle.node.proofs.Choosing.{free_first, free_more}
 use Rattle.node.proofs.Queueing.{is_true, true_is}
 use Rattle.node.proofs.node.Node.free_run.Goals as goal
 
 off : true ≡ false → ⊥
 off e = cc
 
-pub loop-next-init : goal.loop-next-init
-loop-next-init g c = record {
-  end = ap (λ (n : ℕ). n + 64) c.number-end.ensures.is;
-  some = omega (arith, c.number-next.ensures.is);
-  near = omega (arith, c.number-end.ensures.is, c.number-next.ensures.is, c.requires.near.1);
-  there = omega (arith, c.number-next.ensures.is);
-  free = λ s stands first next. free_first s c.args.instance _ next (ap (λ (n : ℕ). n + 1) c.number-next.ensures.is);
+pub loop-past-init : goal.loop-past-init
+loop-past-init g c = record {
+  there = omega arith;
+  free = λ s stands first next. free_first s c.args.instance next;
 }
 
-pub loop-next-preserved : goal.loop-next-preserved
-loop-next-preserved g c =
-    let l = c.loop-next in
+pub loop-past-preserved : goal.loop-past-preserved
+loop-past-preserved g c =
+    let l = c.loop-past in
     record {
-      end = l.invariant.end;
-      some = omega (arith, l.invariant.some);
-      near = omega (arith, c.loop-next-test.true);
-      there = omega (arith, c.in-Some.ensures.0, c.in-Some.ensures.1.1);
-      free = λ s stands first next. free_more s c.args.instance l.next (l.invariant.free s stands first next)
+      there = omega (arith, c.in-Some.ensures.1.1);
+      free = λ s stands first next. free_more s c.args.instance l.past (l.invariant.free s stands first next)
           (let free = (c.is_free.ensures s stands).0 (is_true c.is_free.result c.if-not-is_free.false) in
           record {
             instance = c.in-Some.ensures.1;
@@ -35,21 +32,31 @@ loop-next-preserved g c =
 -- the last instance has been passed
 pub returns-in_default-clause-free : goal.returns-in_default-clause-free
 returns-in_default-clause-free g c s stands first next =
-    let l = c.loop-next in
-    free_run s c.args.first c.args.instance l.next _ (l.invariant.free s stands first next) l.invariant.some (omega (arith, l.invariant.near, l.invariant.end)) (inr (λ free. c.in_default.ensures free.instance))
-    (ap (λ (n : ℕ). l.next - n) c.number.ensures.is)
+    let l = c.loop-past in
+    record {
+      some = omega arith;
+      free = l.invariant.free s stands first next;
+      near = omega (arith, c.number.ensures.is, c.number-2.ensures.is);
+      ends = inr (λ free. c.in_default.ensures free.instance);
+    }
 
 pub returns-then-not-is_free-clause-free : goal.returns-then-not-is_free-clause-free
 returns-then-not-is_free-clause-free g c s stands first next =
-    let l = c.loop-next in
-    let at : l.next ≡ c.in-Some.at = sym c.in-Some.ensures.0 in
-    free_run s c.args.first c.args.instance l.next _ (l.invariant.free s stands first next) l.invariant.some (omega (arith, l.invariant.near, l.invariant.end))
-    (inr (λ free. off (sym (true_is c.is_free.result ((c.is_free.ensures s stands).1 (subst (λ (n : ℕ). s.known n ≡ None) at free.unknown, subst (λ (n : ℕ). s.attempts n ≡ None) at free.untried))) ∙ c.if-not-is_free.true)))
-    (ap (λ (n : ℕ). l.next - n) c.number-then-not-is_free.ensures.is)
+    let l = c.loop-past in
+    let at : c.args.instance + l.past ≡ c.in-Some.at = sym c.in-Some.ensures.0 in
+    record {
+      some = omega arith;
+      free = l.invariant.free s stands first next;
+      near = omega (arith, c.number.ensures.is, c.number-2.ensures.is);
+      ends = inr (λ (free : IsFree s (c.args.instance + l.past)). off (sym (true_is c.is_free.result ((c.is_free.ensures s stands).1 (subst (λ (n : ℕ). s.known n ≡ None) at free.unknown, subst (λ (n : ℕ). s.attempts n ≡ None) at free.untried))) ∙ c.if-not-is_free.true));
+    }
 
 pub returns-clause-free : goal.returns-clause-free
 returns-clause-free g c s stands first next =
-    let l = c.loop-next in
-    let last : l.next ≡ c.args.first + 64 = omega (arith, l.invariant.near, l.invariant.end, c.loop-next-test.false) in
-    free_run s c.args.first c.args.instance l.next _ (l.invariant.free s stands first next) l.invariant.some (omega (arith, l.invariant.near, l.invariant.end)) (inl last)
-    (ap (λ (n : ℕ). l.next - n) c.number-2.ensures.is)
+    let l = c.loop-past in
+    record {
+      some = omega arith;
+      free = λ j within. l.invariant.free s stands first next j (within.0, omega (arith, within.1));
+      near = omega (arith, c.number.ensures.is, c.number-2.ensures.is);
+      ends = inl (omega (arith, c.number.ensures.is, c.number-2.ensures.is));
+    }

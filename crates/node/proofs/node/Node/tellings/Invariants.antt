@@ -1,4 +1,4 @@
-use Rattle.std.proofs.Common.{◌≡◌, ◌+◌, ◌-◌, ◌≤◌, ◌++◌, ℕ, map}
+use Rattle.std.proofs.Common.{◌≡◌, ◌+◌, ◌++◌, ℕ, map}
 use Rattle.node.specs.Nodes.{Node}
 use Rattle.node.specs.Standing.{IsNodeOf}
 use Rattle.node.specs.Tellings.{tellings, fitting, told_from, addressed}
@@ -7,12 +7,8 @@ use Rattle.node.proofs.node.Node.tellings.Given as goal
 -- what is reported so far, and then what is reported of the instances that are left
 abbrev pub invariant-loop-past : goal.invariant-loop-past
 invariant-loop-past g l = record {
-  within : l.past ≤ 64;
   left : ℕ;
   counted : l.past + left ≡ 64;
   so_far : (s : Node) → IsNodeOf l.self s
       → map (addressed l.to) (told_from l.self.me s l.first) ≡ l.told.items ++ map (addressed l.to) (fitting l.room (tellings l.self.me s left (l.first + l.past)));
 }
-
-abbrev pub decreases-loop-past : goal.decreases-loop-past
-decreases-loop-past g l = 64 - l.past
