@@ -3,8 +3,7 @@
 
 ghost use Rattle.std.specs.Prelude.{◌≡◌, ◌≢◌, ◌+◌, ◌≤◌, ℕ, None, Some, OnOk, OnErr, vec_len, vec_capacity};
 ghost use Rattle.std.specs.BTreeMap.{btree_map_len};
-ghost use Rattle.acceptor.specs.Steps.{with_promise, with_vote};
-ghost use Rattle.durable.specs.Cells.{no_cell, found_in};
+ghost use Rattle.durable.specs.Cells.{no_cell, changed, found_in};
 
 use acceptor::Slot;
 use site_ids::{Ballot, MAX_INSTANCE, Value, Vote};
@@ -31,28 +30,30 @@ pub(crate) fn empty_cell() -> Cell
     }
 }
 
-/// Raises the promise.
-pub(crate) fn promise_in(cell: &mut Cell, ballot: Ballot)
-    ensures { cell.new ≡ record cell.old { slot = with_promise cell.old.slot ballot } }
-{
-    cell.slot.promised = Some(ballot);
+/// What is changed in a cell.
+#[derive(Drop)]
+pub(crate) enum Change {
+    /// The promise is raised.
+    Promise(Ballot),
+    /// A vote is put, whose ballot is promised too.
+    Vote(Vote),
+    /// A learned value is put.
+    Learn(Value),
 }
 
-/// Puts a vote, whose ballot is promised too.
-pub(crate) fn vote_in(cell: &mut Cell, vote: Vote)
-    ensures { cell.new ≡ record cell.old { slot = with_vote vote.ballot vote.value } }
+pub(crate) fn change_cell(cell: &mut Cell, change: Change)
+    ensures { cell.new ≡ changed cell.old change }
 {
-    cell.slot = Slot {
-        promised: Some(vote.ballot),
-        vote: Some(vote),
-    };
-}
-
-/// Puts a learned value.
-pub(crate) fn learn_in(cell: &mut Cell, value: Value)
-    ensures { cell.new ≡ record cell.old { learned = Some value } }
-{
-    cell.learned = Some(value);
+    match change {
+        Change::Promise(ballot) => cell.slot.promised = Some(ballot),
+        Change::Vote(vote) => {
+            cell.slot = Slot {
+                promised: Some(vote.ballot),
+                vote: Some(vote),
+            }
+        }
+        Change::Learn(value) => cell.learned = Some(value),
+    }
 }
 
 /// Adds an empty cell to the prefix, and moves the cells that follow it there.

@@ -8,6 +8,7 @@ ghost use Rattle.durable.specs.Raising.{IsSpanned};
 ghost use Rattle.site_ids.specs.Spans.{IsSpan, IsInSpan};
 
 use crate::RecordFault;
+use crate::cells::Change;
 use crate::parsing::EntryRef;
 use crate::slots::Slots;
 use acceptor::{PrepareVerdict, ProposeVerdict, judge_prepare, judge_propose};
@@ -66,7 +67,7 @@ impl Recorded {
         ensures remembers { Remembers self.old self.new (Promised instance ballot) }
         ensures gate { self.new.gate ≡ self.old.gate }
     {
-        self.slots.promise(instance, ballot);
+        self.slots.change(instance, Change::Promise(ballot));
         self.greatest = self.greatest.max(ballot.round());
     }
 
@@ -89,7 +90,7 @@ impl Recorded {
     {
         self.greatest = self.greatest.max(vote.ballot.round());
         self.reach = self.reach.max(instance.number());
-        self.slots.vote(instance, vote);
+        self.slots.change(instance, Change::Vote(vote));
     }
 
     /// Keeps a learned value if there is room for the slot.
@@ -98,7 +99,7 @@ impl Recorded {
         ensures remembers { Remembers self.old self.new (Learned instance value) }
         ensures gate { self.new.gate ≡ self.old.gate }
     {
-        self.slots.learn(instance, value);
+        self.slots.change(instance, Change::Learn(value));
     }
 
     /// Keeps a floor.

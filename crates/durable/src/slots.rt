@@ -12,7 +12,7 @@ ghost use Rattle.durable.specs.Raising.{IsRaised};
 ghost use Rattle.durable.specs.Entries.{Voted, Learned};
 ghost use Rattle.durable.specs.Spelling.{behind_gate};
 
-use crate::cells::{Cell, empty_cell, learn_in, lengthen, promise_in, vote_in};
+use crate::cells::{Cell, Change, change_cell, empty_cell, lengthen};
 use crate::spelling::{learned_behind, vote_behind};
 use acceptor::Slot;
 use site_ids::{Ballot, Instance, Value, Vote};
@@ -33,8 +33,7 @@ pub(crate) struct Slots {
 }
 
 impl Slots {
-    ghost use Rattle.acceptor.specs.Steps.{with_promise, with_vote};
-    ghost use Rattle.durable.specs.Cells.{no_cell};
+    ghost use Rattle.durable.specs.Cells.{no_cell, changed};
     ghost use Rattle.durable.specs.Slots.{found_at, cell_at, slot_at, value_at, IsThere};
 
     pub(crate) fn new(alloc: Global) -> Slots
@@ -148,7 +147,7 @@ impl Slots {
         ensures room { (other : ℕ) → IsThere self.old other → IsThere self.new other }
     {
         if self.is_free(at, ballot) {
-            self.promise(at, ballot);
+            self.change(at, Change::Promise(ballot));
         }
     }
 
@@ -168,45 +167,17 @@ impl Slots {
         }
     }
 
-    /// Raises a promise if there is room for the slot.
-    pub(crate) fn promise(&mut self, at: Instance, ballot: Ballot)
+    /// Changes the cell of an instance if it has one.
+    pub(crate) fn change(&mut self, at: Instance, change: Change)
         requires { IsThere self.old at }
-        ensures promised { cell_at self.new at
-            ≡ record (cell_at self.old at) { slot = with_promise (slot_at self.old at) ballot } }
+        ensures changed { cell_at self.new at ≡ changed (cell_at self.old at) change }
         ensures others { (other : ℕ) → other ≢ at → cell_at self.new other ≡ cell_at self.old other }
         ensures kept { (other : ℕ) → IsThere self.old other → IsThere self.new other }
     {
         if let Some(cell) = self.prefix.get_mut(at.number() as usize - 1) {
-            promise_in(cell, ballot);
+            change_cell(cell, change);
         } else if let Some(cell) = self.beyond.get_mut(&at.number()) {
-            promise_in(cell, ballot);
-        }
-    }
-
-    /// Puts a vote, whose ballot is promised too, if there is room for the slot.
-    pub(crate) fn vote(&mut self, at: Instance, vote: Vote)
-        requires { IsThere self.old at }
-        ensures voted { cell_at self.new at
-            ≡ record (cell_at self.old at) { slot = with_vote vote.ballot vote.value } }
-        ensures others { (other : ℕ) → other ≢ at → cell_at self.new other ≡ cell_at self.old other }
-    {
-        if let Some(cell) = self.prefix.get_mut(at.number() as usize - 1) {
-            vote_in(cell, vote);
-        } else if let Some(cell) = self.beyond.get_mut(&at.number()) {
-            vote_in(cell, vote);
-        }
-    }
-
-    /// Puts a learned value if there is room for the slot, which stays as it is.
-    pub(crate) fn learn(&mut self, at: Instance, value: Value)
-        requires { IsThere self.old at }
-        ensures learned { cell_at self.new at ≡ record (cell_at self.old at) { learned = Some value } }
-        ensures others { (other : ℕ) → other ≢ at → cell_at self.new other ≡ cell_at self.old other }
-    {
-        if let Some(cell) = self.prefix.get_mut(at.number() as usize - 1) {
-            learn_in(cell, value);
-        } else if let Some(cell) = self.beyond.get_mut(&at.number()) {
-            learn_in(cell, value);
+            change_cell(cell, change);
         }
     }
 
