@@ -1,10 +1,8 @@
 //! The commands of a folder as `siterender` reads them, for an editor without a group.
-ghost use Rattle.std.specs.Prelude.{◌≡◌, IfOk, string_bytes};
-ghost use Rattle.engine_page.specs.Framed.{frame as framed};
-
 use editor_common::EditorFault;
 use editor_files::{read_clean, texts_of};
 use editor_folder::Folder;
+use engine_page::frame_of;
 use site_ids::Ticket;
 use std::alloc::{AllocError, Global};
 use std::io::Write;
@@ -12,14 +10,6 @@ use std::rt::Files;
 
 /// What makes a folder's commands one release.
 const RELEASE: &str = "release\n";
-
-/// A command's text in its frame.
-fn frame_of(alloc: Global, ticket: Ticket, text: &str) -> Result<String, AllocError>
-    ensures { IfOk result (λ f. string_bytes f ≡ framed (record { ticket = ticket; text = text.now })) }
-{
-    let (editor, number, length) = (ticket.editor, ticket.number, text.len());
-    format!(in alloc; "{editor} {number} {length}\n{text}")
-}
 
 /// The frames of texts, under an editor's tickets from 1 on.
 fn frames_of(alloc: Global, editor: u32, texts: &[&str]) -> Result<String, AllocError> {

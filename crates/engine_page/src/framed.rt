@@ -1,11 +1,12 @@
 //! Framed commands: a line of three numbers, and the command text.
-ghost use Rattle.std.specs.Prelude.{◌≡◌, ◌++◌, MatchOption};
+ghost use Rattle.std.specs.Prelude.{◌≡◌, ◌++◌, IfOk, MatchOption, string_bytes};
 ghost use Rattle.engine_page.specs.Framed.{frame, Fits, HasNoFrame};
 ghost use Rattle.engine_page.specs.Words.{Words, HasWords};
 ghost use Rattle.engine_page.specs.View.{line_view, framed_view};
 
 use engine_common::{MAX_TEXT, cut, read_number};
 use site_ids::Ticket;
+use std::alloc::{AllocError, Global};
 
 #[derive(Clone, Copy)]
 pub(crate) struct Line<'a> {
@@ -53,4 +54,12 @@ pub(crate) fn next(bytes: &[u8]) -> Option<Framed<'_>>
     let (text, rest) = line.after.split_at_checked(text_len as usize)?;
     let ticket = Ticket { editor, number };
     Some(Framed { ticket, text, rest })
+}
+
+/// A command's text in its frame.
+pub fn frame_of(alloc: Global, ticket: Ticket, text: &str) -> Result<String, AllocError>
+    ensures { IfOk result (λ f. string_bytes f ≡ frame (record { ticket = ticket; text = text.now })) }
+{
+    let (editor, number, length) = (ticket.editor, ticket.number, text.len());
+    format!(in alloc; "{editor} {number} {length}\n{text}")
 }

@@ -7,4 +7,5 @@ mod input;
 mod laws;
 
 pub use engine::siterender;
+pub use framed::frame_of;
 pub use laws::an_input_has_one_verdict;
