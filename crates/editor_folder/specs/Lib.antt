@@ -1,3 +1,2 @@
 pub mod Moved
 pub mod Places
-pub mod Texts

@@ -2,8 +2,6 @@
 
 use crate::file::SiteFile;
 use crate::finding::Finding;
-use crate::folder_command::FolderCommand;
-use crate::judging::Refusal;
 use crate::keys::keys_of;
 use crate::lines::{
     Line, RedirectLine, RouteLine, kind_word, lines_in, redirect_in, removal_in, route_in,
@@ -14,6 +12,7 @@ use crate::roles::{Role, role_of};
 use crate::tags::{TagName, add_keys, doubled_keys, push_tags};
 use crate::template_reasons::{calls_of, names_of};
 use command::{CommandFault, Kind};
+use editor_command::{CommandText, Refusal};
 use std::alloc::{AllocError, Global};
 use std::collections::{BTreeMap, BTreeSet};
 
@@ -38,7 +37,7 @@ pub struct Redirect {
 /// wrong with it.
 #[derive(Drop)]
 pub struct Folder {
-    pub commands: Vec<FolderCommand>,
+    pub commands: Vec<CommandText>,
     pub routes: Vec<Route>,
     pub redirects: Vec<Redirect>,
     pub findings: Vec<Finding>,
@@ -93,7 +92,7 @@ impl Reading {
 
     /// Takes a text as a command, or returns why it is not one.
     fn judge(&mut self, text: Vec<u8>) -> Result<Option<Refusal>, AllocError> {
-        match FolderCommand::of(self.alloc, text)? {
+        match CommandText::of(self.alloc, text)? {
             Ok(command) => {
                 self.folder.commands.push(command)?;
                 Ok(None)

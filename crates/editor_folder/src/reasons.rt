@@ -1,11 +1,11 @@
 //! Why a file's text is not a command, for people.
 use crate::data_reasons::{json_slip, number_slip};
 use crate::finding::{Finding, Weight};
-use crate::judging::Refusal;
 use crate::place::{Place, place_of};
 use crate::template_reasons::template_reason;
 use command::CommandFault;
 use context::DataFault;
+use editor_command::Refusal;
 use site_ids::{MAX_VALUE, TICKET_BYTES};
 use std::alloc::{AllocError, Global};
 

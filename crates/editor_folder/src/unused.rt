@@ -1,9 +1,9 @@
 //! What no page of a folder reaches.
 use crate::finding::Finding;
 use crate::folder::Folder;
-use crate::folder_command::FolderCommand;
 use crate::limits::Nesting;
 use crate::reasons::file_warning;
+use editor_command::CommandText;
 use std::alloc::{AllocError, Global};
 use std::collections::BTreeSet;
 
@@ -107,7 +107,7 @@ fn data_named(alloc: Global, folder: &Folder) -> Result<BTreeSet<String>, AllocE
 }
 
 /// The kind and the name of the data that a command puts, if it puts some.
-fn data_in(command: &FolderCommand) -> Option<&str> {
+fn data_in(command: &CommandText) -> Option<&str> {
     let text = str::from_utf8(command.text()).ok()?;
     let (key, _) = text.strip_prefix("put ")?.split_once('\n')?;
     if key.starts_with("data ") {

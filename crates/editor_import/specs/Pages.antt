@@ -3,7 +3,7 @@ use Rattle.std.specs.Prelude.{◌≡◌, ◌⊎◌, ℕ, List, ◌++◌, codes, 
 use Rattle.command.specs.Reading.{value_reading}
 use Rattle.command.specs.Written.{value_of}
 use Rattle.command.specs.declared.fault.CommandFault.{CommandFault}
-use Rattle.editor_folder.specs.Texts.{IsCommandText, nobodys}
+use Rattle.editor_command.specs.Texts.{IsCommandText, nobodys}
 use Rattle.editor_folder.specs.declared.file.SiteFile.{SiteFile}
 use Rattle.editor_import.specs.Routes.{IsRoute}
 use Rattle.editor_import.specs.Verbatim.{verbatim, Shows}

@@ -1,6 +1,6 @@
 //! A file of a generator's output as a page of a site.
 ghost use Rattle.std.specs.Prelude.{◌≡◌, IfOk, MatchOption, MatchResult, string_bytes};
-ghost use Rattle.editor_folder.specs.Texts.{IsCommandText};
+ghost use Rattle.editor_command.specs.Texts.{IsCommandText};
 ghost use Rattle.editor_import.specs.Pages.{IsPageOf, IsPut, IsLeftOut, WhyNot, FaultOf, template_text};
 ghost use Rattle.editor_import.specs.Pages.{route_text};
 ghost use Rattle.editor_import.specs.Routes.{IsRoute};
@@ -10,7 +10,8 @@ use crate::left_out::NotTaken;
 use crate::route::route_of;
 use crate::template::template_of;
 use command::CommandFault;
-use editor_folder::{SiteFile, refused};
+use editor_command::refused;
+use editor_folder::SiteFile;
 use sha2::{Digest, Sha256};
 use std::alloc::{AllocError, Global};
 

@@ -2,9 +2,6 @@
 //!
 //! Each page of the folder is compared with the release, and each path at which the folder no longer has
 //! anything.
-ghost use Rattle.std.specs.Prelude.{◌≡◌};
-ghost use Rattle.editor_publish.specs.Comparing.{is_compared, shows};
-
 use editor_common::{EditorFault, say_made};
 use editor_files::lent;
 use editor_folder::{View, path_in, views_of};
@@ -12,13 +9,11 @@ use editor_group::{Address, ask};
 use editor_http::{NodeAnswer, Question};
 use editor_ledger::Ledger;
 use editor_plan::is_of_page;
+use editor_shown::{NOTHING, is_compared, shows};
 use std::alloc::{AllocError, Global};
 use std::collections::BTreeSet;
 use std::io::Write;
 use std::net::{Net, TcpStream};
-
-/// What a node answers for a path that has nothing.
-const NOTHING: u16 = 404;
 
 /// A page that changes: the status shown before, as far as the ledger knows, and the view shown after.
 #[derive(Drop)]
@@ -90,14 +85,6 @@ pub(crate) fn changes_of(
     differing(alloc, &olds, news)
 }
 
-/// Whether a release is compared with the view of a path. If `touched`, the publication has a text about the
-/// path; if `left`, it leaves the path to another editor.
-fn is_compared(status: u16, touched: bool, left: bool) -> bool
-    ensures { result ≡ is_compared status touched left }
-{
-    (status != NOTHING || touched) && !left
-}
-
 /// What the release of a publication of these texts has to show. The texts of `touched` are about what it
 /// changes; if `all`, every path counts as changed. The paths of `left` are left to another editor.
 pub(crate) fn expected(
@@ -154,13 +141,6 @@ pub(crate) fn changes_since(
         return Ok(Vec::new(alloc));
     }
     changes_of(alloc, &lent(alloc, ledger.kept())?, after)
-}
-
-/// Whether an answer is what a view shows.
-pub(crate) fn shows(answer: &NodeAnswer, view: &View) -> bool
-    ensures { result ≡ shows answer.now view.now }
-{
-    answer.status == view.status && answer.body.as_slice() == view.body.as_bytes()
 }
 
 fn is_shown(answer: Option<&NodeAnswer>, view: &View) -> bool {

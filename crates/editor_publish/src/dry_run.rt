@@ -1,6 +1,5 @@
 //! What would be published.
 use crate::comparing::{Change, changes_of, changes_since, with_taken};
-use crate::ending::Shown;
 use crate::taking_over::{Taken, plan_again, with_staying};
 use editor_common::{EditorFault, Outcome, say, say_made};
 use editor_files::lent;
@@ -9,15 +8,6 @@ use editor_plan::{Stage, advance};
 use serde_json::{Value, json};
 use std::alloc::{AllocError, Global};
 use std::io::Write;
-
-/// What a dry run found.
-#[derive(Clone, Copy)]
-pub(crate) struct Found {
-    /// Something would be sent.
-    pub sends: bool,
-    /// If nothing would be sent, whether the group shows the folder.
-    pub shown: Shown,
-}
 
 /// What a dry run sees of the group.
 #[derive(Drop)]

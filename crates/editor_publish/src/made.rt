@@ -1,8 +1,4 @@
 //! The release that a publication made.
-ghost use Rattle.std.specs.Prelude.{◌≡◌, ◌-◌, ◌==◌};
-ghost use Rattle.editor_publish.specs.Endings.{commands_of};
-ghost use Rattle.editor_publish.specs.Numbers.{is_exact};
-
 use editor_common::{EditorFault, say_made};
 use editor_ledger::Ledger;
 use serde_json::{Value, json};
@@ -20,42 +16,12 @@ pub(crate) struct Made {
     pub commands: u64,
 }
 
-/// Whether `release` comes right after `before`.
-fn is_next(before: u64, release: u64) -> bool
-    ensures { result ≡ (release - before == 1) }
-{
-    release.saturating_sub(before) == 1
-}
-
-/// Whether the newest release, `release`, is the one that was sent and has its receipt. Before it was sent,
-/// the newest one was `before`, if the node reported it, and the folder's own last one was `shown`. If an
-/// interrupted run had begun the release, it may have been made before that.
-pub(crate) fn is_exact(begun: bool, before: Option<u64>, shown: u64, release: u64) -> bool
-    ensures { result ≡ is_exact begun before shown release }
-{
-    is_next(shown, release)
-        || !begun
-            && match before {
-                Some(before) => is_next(before, release),
-                None => false,
-            }
-}
-
 /// The ticket of the release that is on its way, if one is.
 pub(crate) fn release_ticket(ledger: &Ledger) -> Option<u64> {
     match ledger.sent() {
         [sent] if sent.text.as_str() == "release\n" => Some(sent.number),
         _ => None,
     }
-}
-
-/// How many commands the release of a ticket shows that no release showed before.
-pub(crate) fn commands_of(ledger: &Ledger, ticket: u64) -> u64
-    ensures { result ≡ commands_of ticket ledger.now }
-{
-    ticket
-        .saturating_sub(ledger.last_release())
-        .saturating_sub(1)
 }
 
 /// Why a publication stops at a node that does not report its newest release.

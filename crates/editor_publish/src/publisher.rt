@@ -1,11 +1,8 @@
 //! A publication under way.
 use crate::asked::Asked;
 use crate::comparing::{expected, tell_differences};
-use crate::dry_run::{Found, Seen, tell_plan};
-use crate::ending::Shown;
-use crate::made::{
-    Made, commands_of, is_exact, made_value, release_ticket, tell_made, unnumbered, untold,
-};
+use crate::dry_run::{Seen, tell_plan};
+use crate::made::{Made, made_value, release_ticket, tell_made, unnumbered, untold};
 use crate::taking_over::{
     Taken, others_have_put, plan_again, refusal_of, taken_over, tell_left_over, tell_paths,
     tell_taken_over, with_staying,
@@ -17,6 +14,7 @@ use editor_group::{Group, Look, confirm, deliver, look_at, newest};
 use editor_ledger::{Ledger, Message, Released};
 use editor_options::PublishWord;
 use editor_plan::{Stage, advance, last_shown, left_by, touched, unlogged};
+use editor_shown::{Found, Shown, commands_of, is_exact};
 use serde_json::Value;
 use std::alloc::AllocError;
 use std::io::Write;

@@ -1,14 +1,14 @@
 //! A folder becomes the next release of a group.
 ghost use Rattle.std.specs.Prelude.{◌≡◌, [], false, IfOk, IsErr};
-ghost use Rattle.editor_publish.specs.Endings.{IsStatus, MayEnd};
+ghost use Rattle.editor_shown.specs.Endings.{IsStatus, MayEnd};
 
-use crate::ending::Ending;
 use crate::next_release::NextRelease;
 use crate::publisher::Publisher;
 use editor_common::{EditorFault, Outcome};
 use editor_files::hold;
 use editor_group::Group;
 use editor_options::PublishWord;
+use editor_shown::Ending;
 use serde_json::Value;
 use std::fs::File;
 use std::io::Write;

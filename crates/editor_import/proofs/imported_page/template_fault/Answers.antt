@@ -1,6 +1,6 @@
 use Rattle.std.proofs.Common.{◌≡◌, ◌++◌, ◌∙◌, codes, ap, subst, string_bytes}
 use Rattle.std.specs.Prelude.{MatchOption}
-use Rattle.editor_folder.specs.Texts.{IsCommandText, IsRefused}
+use Rattle.editor_command.specs.Texts.{IsCommandText, IsRefused}
 use Rattle.editor_import.specs.Pages.{FaultOf, template_text}
 use Rattle.editor_import.proofs.imported_page.template_fault.Goals as goal
 

@@ -1,7 +1,7 @@
 use Rattle.std.proofs.Common.{sym, ◌∙◌, ap, Err}
 use Rattle.command.specs.Reading.{value_reading}
 use Rattle.command.specs.Written.{line_of}
-use Rattle.editor_folder.proofs.judging.refused.Goals as goal
+use Rattle.editor_command.proofs.refusal.refused.Goals as goal
 
 pub returns-in-Ok : goal.returns-in-Ok
 returns-in-Ok c =

@@ -4,7 +4,7 @@ use Rattle.site_ids.specs.declared.Ticket.{Ticket}
 use Rattle.command.specs.Action.{Order}
 use Rattle.command.specs.Reading.{value_reading}
 use Rattle.command.specs.Written.{value_of, line_of}
-use Rattle.editor_folder.specs.declared.judging.Refusal.{Refusal}
+use Rattle.editor_command.specs.declared.refusal.Refusal.{Refusal}
 
 -- the ticket of nobody, under which texts are judged
 abbrev pub nobodys : Ticket

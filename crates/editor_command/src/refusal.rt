@@ -1,7 +1,7 @@
 //! Whether a text is a command.
 ghost use Rattle.std.specs.Prelude.{◌≡◌, ◌≢◌, IfOk, MatchOption, string_bytes};
 ghost use Rattle.command.specs.Written.{line_of, HasLine};
-ghost use Rattle.editor_folder.specs.Texts.{IsCommandText, IsRefused};
+ghost use Rattle.editor_command.specs.Texts.{IsCommandText, IsRefused};
 
 use command::{CommandFault, fault_line, read, write};
 use site_ids::Ticket;

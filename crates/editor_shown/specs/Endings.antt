@@ -1,11 +1,11 @@
 -- How a publication ends, as a status.
 use Rattle.std.specs.Prelude.{◌≡◌, ℕ, ◌-◌, ◌==◌, ◌&&◌, if◌then◌else◌, Bool, true, ⊤}
 use Rattle.editor_ledger.specs.Books.{Book}
-use Rattle.editor_publish.specs.declared.dry_run.Found.{Found}
-use Rattle.editor_publish.specs.declared.ending.Ending.{Ending}
-use Rattle.editor_publish.specs.declared.ending.Ending.TheVariants.{Well, Bad, WouldSend}
-use Rattle.editor_publish.specs.declared.ending.Shown.{Shown}
-use Rattle.editor_publish.specs.declared.ending.Shown.TheVariants.{Whole, NotWhole}
+use Rattle.editor_shown.specs.declared.ending.Found.{Found}
+use Rattle.editor_shown.specs.declared.ending.Ending.{Ending}
+use Rattle.editor_shown.specs.declared.ending.Ending.TheVariants.{Well, Bad, WouldSend}
+use Rattle.editor_shown.specs.declared.ending.Shown.{Shown}
+use Rattle.editor_shown.specs.declared.ending.Shown.TheVariants.{Whole, NotWhole}
 
 -- 1 is a fault, and 2 would be an invalid command line
 abbrev pub status_of : Ending → ℕ

@@ -1,12 +1,10 @@
 //! How a publication ends.
 ghost use Rattle.std.specs.Prelude.{◌≡◌};
-ghost use Rattle.editor_publish.specs.Endings.{shown_of, ending_of, dry_ending, status_of};
-
-use crate::dry_run::Found;
+ghost use Rattle.editor_shown.specs.Endings.{shown_of, ending_of, dry_ending, status_of};
 
 /// Whether a release shows what a publication put into it.
 #[derive(Clone, Copy, Debug, Drop, PartialEq, Eq)]
-pub(crate) enum Shown {
+pub enum Shown {
     Whole,
     /// Some paths are not as the folder has them.
     NotWhole,
@@ -14,7 +12,7 @@ pub(crate) enum Shown {
 
 impl Shown {
     /// By the number of paths that a release does not show as the folder has them.
-    pub(crate) fn of(unshown: usize) -> Shown
+    pub fn of(unshown: usize) -> Shown
         ensures { result ≡ shown_of unshown }
     {
         if unshown == 0 {
@@ -25,9 +23,18 @@ impl Shown {
     }
 }
 
+/// What a dry run found.
+#[derive(Clone, Copy)]
+pub struct Found {
+    /// Something would be sent.
+    pub sends: bool,
+    /// If nothing would be sent, whether the group shows the folder.
+    pub shown: Shown,
+}
+
 /// How a publication ends.
 #[derive(Clone, Copy, Debug, Drop, PartialEq, Eq)]
-pub(crate) enum Ending {
+pub enum Ending {
     /// What was wanted is shown, or a dry run printed what it had to.
     Well,
     /// The folder has a fault, or is not shown.
@@ -38,7 +45,7 @@ pub(crate) enum Ending {
 
 impl Ending {
     /// The ending of a publication.
-    pub(crate) fn of(shown: Shown) -> Ending
+    pub fn of(shown: Shown) -> Ending
         ensures { result ≡ ending_of shown }
     {
         match shown {
@@ -48,7 +55,7 @@ impl Ending {
     }
 
     /// The ending of a dry run. If `tells`, its status says whether something would be sent.
-    pub(crate) fn of_dry_run(found: Found, tells: bool) -> Ending
+    pub fn of_dry_run(found: Found, tells: bool) -> Ending
         ensures { result ≡ dry_ending found tells }
     {
         if found.sends && tells {
@@ -59,7 +66,7 @@ impl Ending {
     }
 
     /// The exit status.
-    pub(crate) fn status(self) -> u8
+    pub fn status(self) -> u8
         ensures { result ≡ status_of self }
     {
         match self {

@@ -1,6 +1,6 @@
 use Rattle.std.proofs.Common.{◌≡◌, ◌++◌, map, drop, string_bytes}
-use Rattle.editor_publish.specs.Taking.{those_of}
-use Rattle.editor_publish.proofs.asked.those_of.Given as goal
+use Rattle.editor_shown.specs.Taking.{those_of}
+use Rattle.editor_shown.proofs.which.those_of.Given as goal
 
 -- those so far, and those of the paths that are left
 abbrev pub invariant-loop-i : goal.invariant-loop-i

@@ -1,20 +1,20 @@
-//! A command of a folder.
+//! A text that is a command.
 ghost use Rattle.std.specs.Prelude.{◌≡◌, IfOk, MatchResult};
-ghost use Rattle.editor_folder.specs.Texts.{IsRefused};
+ghost use Rattle.editor_command.specs.Texts.{IsRefused};
 
-use crate::judging::{Refusal, refused};
+use crate::refusal::{Refusal, refused};
 use std::alloc::{AllocError, Global};
 use std::marker::Model;
 
-/// A command of a folder: a text that is a command.
+/// A text that is a command.
 #[derive(Drop)]
-pub struct FolderCommand {
+pub struct CommandText {
     text: Vec<u8>,
 }
 
-impl Model for FolderCommand {
+impl Model for CommandText {
     ghost use Rattle.std.specs.Prelude.{ℕ, List};
-    ghost use Rattle.editor_folder.specs.Texts.{IsCommandText};
+    ghost use Rattle.editor_command.specs.Texts.{IsCommandText};
 
     ghost Value = { List ℕ };
 
@@ -23,17 +23,14 @@ impl Model for FolderCommand {
     ghost invariant = { λ c. IsCommandText c.text.items };
 }
 
-impl FolderCommand {
-    /// The command of a text, or why the text is not one.
-    pub(crate) fn of(
-        alloc: Global,
-        text: Vec<u8>,
-    ) -> Result<Result<FolderCommand, Refusal>, AllocError>
+impl CommandText {
+    /// The text as a command, or why it is not one.
+    pub fn of(alloc: Global, text: Vec<u8>) -> Result<Result<CommandText, Refusal>, AllocError>
         ensures { IfOk result (λ read. MatchResult read (λ c. c ≡ text.items) (IsRefused text.items)) }
     {
         match refused(alloc, &text)? {
             Some(refusal) => Ok(Err(refusal)),
-            None => Ok(Ok(FolderCommand { text })),
+            None => Ok(Ok(CommandText { text })),
         }
     }
 

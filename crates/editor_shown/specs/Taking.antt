@@ -6,9 +6,9 @@ use Rattle.std.specs.declared.alloc.Global.{Global}
 use Rattle.editor_folder.specs.declared.views.View.{View}
 use Rattle.editor_http.specs.declared.node_answer.NodeAnswer.{NodeAnswer}
 use Rattle.editor_plan.specs.Takings.{is_taken}
-use Rattle.editor_publish.specs.declared.asked.Which.{Which}
-use Rattle.editor_publish.specs.declared.asked.Which.TheVariants.{Taken, Others, Fresh}
-use Rattle.editor_publish.specs.Comparing.{shows}
+use Rattle.editor_shown.specs.declared.which.Which.{Which}
+use Rattle.editor_shown.specs.declared.which.Which.TheVariants.{Taken, Others, Fresh}
+use Rattle.editor_shown.specs.Comparing.{shows}
 
 abbrev pub shows_some : NodeAnswer → Option View → Bool
 shows_some answer None = false
