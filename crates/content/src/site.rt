@@ -1,4 +1,7 @@
 //! The set of tickets with the new one is made beside the old set.
+//!
+//! Tests call `apply`. A node reads a value once, when it becomes known, and its releases call
+//! `apply_command`.
 
 ghost use Rattle.std.specs.Prelude.{◌≡◌, ◌≢◌, ℕ, List, [], ◌∷◌, ◌++◌, Some, None, Ok, true, if◌then◌else◌};
 ghost use Rattle.std.specs.Prelude.{IfOk, OnErr, MatchOption, option_map};

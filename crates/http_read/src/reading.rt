@@ -1,5 +1,8 @@
 //! Reads one request.
 //!
+//! `serve` (so `sitecluster`) and tests call `request`, which waits for the whole request. `sited` goes by
+//! `Server::step`: its connections take in what has come, and do not wait.
+//!
 //! After a failed read no other read is made. A failed read differs from the input's end only by the count
 //! (`StopsAt`).
 

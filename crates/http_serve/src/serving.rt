@@ -1,5 +1,8 @@
 //! Serves one connection.
 //!
+//! `sitecluster` and tests call `serve`, which waits for its client. `sited` goes by `Server::step`, which
+//! has a `Connection` for each client, so that a slow client holds up no other.
+//!
 //! The clauses of an exchange say that nothing was written at a fault. Over a socket, no clause says which
 //! request failed.
 

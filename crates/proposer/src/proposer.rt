@@ -1,4 +1,5 @@
-//! Making room may fail, but opening an attempt may not. Between the two a node puts its round on record.
+//! Making room may fail, but opening an attempt may not. Between the two a node puts its round on record, so
+//! it calls `make_room_for_span` and `open_span`. Tests call `start`, which does both for one instance.
 
 ghost use Rattle.std.specs.Prelude.{◌≡◌, ◌↔◌, ◌+◌, ◌<◌, ℕ, max, None, Some, Option, OnOk, OnErr, IfOk};
 ghost use Rattle.std.specs.Prelude.{IsTrue, MatchResult, length};

@@ -1,4 +1,7 @@
 //! Turns without calls, and turns with calls after the last one.
+//!
+//! `sitecluster` and tests drive nodes by `drive`. `sited` goes by `Server::step` instead: its pace chooses
+//! the last call, and one seal covers all datagrams of a step.
 
 ghost use Rattle.std.specs.Prelude.{◌≡◌, ◌≤◌, [], ℕ, IfOk, IfErr, OnOk, OnErr};
 ghost use Rattle.node.specs.Standing.{CountsDevice, failures};

@@ -1,4 +1,5 @@
-//! What carries datagrams.
+//! What carries datagrams. `sitecluster` and tests have links. A server has none: `Server::step` takes
+//! datagrams as data, so that its tests need no socket.
 //!
 //! A failed receive is a turn without a datagram. A failed send is ignored, and so is a message that fits no
 //! datagram: nodes hand out no such message.
