@@ -1,7 +1,9 @@
 //! Which of the paths that were compared are another editor's.
-ghost use Rattle.std.specs.Prelude.{◌≡◌, map, slice_get, true, Some, IfOk, string_bytes};
+ghost use Rattle.std.specs.Prelude.{◌≡◌, map, slice_get, true, Some, None, IfOk, IfErr, string_bytes};
+ghost use Rattle.std.specs.Prelude.{option_copied};
 ghost use Rattle.editor_plan.specs.Takings.{is_of_page};
 ghost use Rattle.editor_shown.specs.Taking.{shows_some, is_own, is_fresh, has, those_of};
+ghost use Rattle.editor_shown.specs.Unanswered.{TellsPath, TellsUnanswered};
 
 use crate::showing::shows;
 use editor_common::EditorFault;
@@ -43,7 +45,9 @@ fn is_fresh(answer: &NodeAnswer, states: &[Vec<View>], place: usize) -> bool
 }
 
 /// The fault of a path that no node answered.
-fn unanswered(alloc: Global, url: &str, path: &str) -> Result<EditorFault, AllocError> {
+fn unanswered(alloc: Global, url: &str, path: &str) -> Result<EditorFault, AllocError>
+    ensures { IfOk result (λ why. TellsPath url.now path.now None why) }
+{
     Ok(EditorFault::Stop(format!(in alloc; "{url}{path}: was not answered")?))
 }
 
@@ -54,7 +58,9 @@ fn page_answer<'a>(
     path: &str,
     answer: Option<&'a NodeAnswer>,
 ) -> Result<&'a NodeAnswer, EditorFault>
-    ensures { IfOk result (λ found. (answer.entry ≡ Some found) × (is_of_page found.now.status ≡ true)) }
+    ensures answered { IfOk result (λ found. (answer.entry ≡ Some found)
+        × (is_of_page found.now.status ≡ true)) }
+    ensures unanswered { IfErr result (TellsPath url.now path.now (option_copied answer.entry)) }
 {
     match answer {
         Some(answer) if is_of_page(answer.status) => Ok(answer),
@@ -96,8 +102,10 @@ pub fn those_of(
     answers: &[NodeAnswer],
     states: &[Vec<View>],
 ) -> Result<Vec<String>, EditorFault>
-    ensures { IfOk result (λ those. map string_bytes those.items
+    ensures those { IfOk result (λ those. map string_bytes those.items
         ≡ those_of which states.now 0 (map string_bytes paths.now) answers.now) }
+    ensures unanswered { IfErr result
+        (TellsUnanswered url.now (map string_bytes paths.now) answers.now) }
 {
     let mut those = Vec::new(alloc);
     for (i, path) in paths.iter().enumerate() {
