@@ -1,5 +1,6 @@
 -- Which path no node answered for.
-use Rattle.std.specs.Prelude.{◌≡◌, ⊤, ℕ, List, ◌++◌, Option, Some, None, false, codes, slice_get, string_bytes}
+use Rattle.std.specs.Prelude.{◌≡◌, ⊤, ℕ, List, ◌++◌, Option, Some, None, false, slice_get}
+use Rattle.std.specs.Prelude.{codes, string_bytes}
 use Rattle.editor_common.specs.declared.editor_fault.EditorFault.{EditorFault}
 use Rattle.editor_common.specs.declared.editor_fault.EditorFault.TheVariants.{Stop, OutOfMemory}
 use Rattle.editor_http.specs.declared.node_answer.NodeAnswer.{NodeAnswer}

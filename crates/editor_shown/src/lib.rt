@@ -1,8 +1,8 @@
 //! What a node's answers say of a folder: whether a release shows it, and whose a path is.
 //!
-//! `showing.rt` says whether an answer is what a view shows, and what is compared. `which.rt` says which paths
-//! another editor took over, `numbers.rt` whether the number of a release is exact, and `ending.rt` how a
-//! publication ends.
+//! `showing.rt` says whether an answer is what a view shows, and what is compared. `which.rt` says which
+//! paths another editor took over, `numbers.rt` whether the number of a release is exact, and `ending.rt`
+//! how a publication ends.
 #![tactic(auto)]
 
 mod ending;
