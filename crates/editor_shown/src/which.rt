@@ -51,7 +51,7 @@ fn unanswered(alloc: Global, url: &str, path: &str) -> Result<EditorFault, Alloc
     Ok(EditorFault::Stop(format!(in alloc; "{url}{path}: was not answered")?))
 }
 
-/// The answer for a path. It is a fault if there is none, or if its status is one that no node gives.
+/// The answer for a path. It is a fault if no answer came, or if its status is one that no node gives.
 fn page_answer<'a>(
     alloc: Global,
     url: &str,
